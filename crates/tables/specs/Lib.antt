@@ -1,0 +1,9 @@
+pub mod Directions
+pub mod Parts
+pub mod Places
+pub mod Primitive
+pub mod Raw
+pub mod Reader
+pub mod Record
+pub mod Sobol
+pub mod Table
