@@ -40,6 +40,7 @@ pub record Refusal : Type 0 where
   pub coordinate : ℕ
   pub place : ℕ
 
+-- a refusal from its number, layer, coordinate and place
 abbrev pub refusal : ℕ → ℕ → ℕ → ℕ → Refusal
 refusal n l c p = record { number = n; layer = l; coordinate = c; place = p }
 

@@ -14,6 +14,7 @@ DigitLimits q M = (1 ≤ M) × (q ^ M ≤ 2 ^ 32)
 abbrev pub CoordinateLimits : ℕ → Type 0
 CoordinateLimits s = (1 ≤ s) × (s ≤ 8)
 
+-- q, M and s are all within the limits
 abbrev pub Limits : ℕ → ℕ → ℕ → Type 0
 Limits q M s = BaseLimits q × DigitLimits q M × CoordinateLimits s
 

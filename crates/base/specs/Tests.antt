@@ -13,6 +13,7 @@ pub record Test : Type 1 where
   pub found : Type 0
   pub gives : Refusal
 
+-- a test from its two parts
 abbrev pub test : Type 0 → Refusal → Test
 test found gives = record { found = found; gives = gives }
 

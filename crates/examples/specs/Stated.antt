@@ -12,5 +12,6 @@ eleven = 3 ∷ 0 ∷ 11 ∷ 0 ∷ 1 ∷ 0 ∷ 3 ∷ 0 ∷ 7 ∷ 0 ∷ 0 ∷ 0 �
 abbrev pub Continues : Type 0
 Continues = (directionOf eleven 4 ≡ 5) × (directionOf eleven 5 ≡ 7) × (directionOf eleven 6 ≡ 43)
 
+-- all worked examples together
 abbrev pub WorkedExamples : Type 0
 WorkedExamples = Continues

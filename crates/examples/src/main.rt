@@ -1,5 +1,6 @@
 //! The test program: prints a direction list with its table, and what damaged lists are refused with.
 mod damaged;
+mod lists;
 mod published;
 mod stated;
 #[cfg(test)]
@@ -15,6 +16,6 @@ fn main(rt: LibcRuntime) -> Result<(), AnyError> {
     published::print_list(&rt, list.as_slice())?;
     damaged::print_refusals(&rt)?;
     let count = stated::worked_examples();
-    println!(rt, "{count} worked examples are proved of the definitions")?;
+    println!(rt, "worked examples proved of the definitions: {count}")?;
     Ok(())
 }

@@ -1,9 +1,11 @@
 //! The worked examples, proved of the definitions.
+ghost use mathlib.Core.Path.{_≡_};
 ghost use Rattle.examples.specs.Stated.{WorkedExamples};
 
-/// How many worked examples are proved of the definitions.
+/// The number of worked examples that are proved of the definitions, all of them in this contract.
 pub fn worked_examples() -> u8
-    ensures { λ _. ⌜ WorkedExamples ⌝ }
+    ensures count { λ r. ⌜ r ≡ 1 ⌝ }
+    ensures stated { λ _. ⌜ WorkedExamples ⌝ }
 {
     1
 }

@@ -1,4 +1,6 @@
 //! Lists that are accepted and refused, and raw tables. Expected numbers are worked out by hand.
+use crate::lists::GOOD;
+use crate::lists::THIRTY_ONE;
 use base::faults::Fault;
 use base::faults::FaultDebug;
 use std::test::*;
@@ -6,53 +8,6 @@ use tables::raw::raw_table;
 use tables::reader::Reader;
 use tables::sobol::sobol_table;
 use tables::table::Table;
-
-// A coordinate of degree 0, and the polynomial 11 with 1, 3, 7.
-const GOOD: [u8; 40] = [
-    0,
-    0,
-    1,
-    0,
-    0,
-    0,
-    0,
-    0,
-    0,
-    0,
-    0,
-    0,
-    0,
-    0,
-    0,
-    0,
-    0,
-    0,
-    0,
-    0,
-    3,
-    0,
-    11,
-    0,
-    1,
-    0,
-    3,
-    0,
-    7,
-    0,
-    0,
-    0,
-    0,
-    0,
-    0,
-    0,
-    0,
-    0,
-    0,
-    0,
-];
-
-// Polynomial 31 of degree 4 with 1, 3, 7, 1: irreducible, and not primitive.
-const THIRTY_ONE: [u8; 20] = [4, 0, 31, 0, 1, 0, 3, 0, 7, 0, 1, 0, 0, 0, 0, 0, 0, 0, 0, 0];
 
 // What a call should be refused with.
 #[derive(Clone, Copy)]
@@ -74,14 +29,14 @@ fn check_refused(answer: Result<Table, Fault>, expected: Numbers) -> Result<(), 
 #[test]
 fn lists_of_other_sizes() -> Result<(), Fail> {
     check_refused(sobol_table(&[], 16), Numbers(3, 1, 255, 0))?;
-    check_refused(sobol_table(&GOOD[0..19], 16), Numbers(3, 1, 255, 0))?;
+    check_refused(sobol_table(&[0u8; 19], 16), Numbers(3, 1, 255, 0))?;
     check_refused(sobol_table(&[0u8; 180], 16), Numbers(2, 1, 255, 0))?;
-    check_refused(sobol_table(&GOOD, 0), Numbers(2, 2, 255, 0))?;
-    check_refused(sobol_table(&GOOD, 33), Numbers(2, 2, 255, 0))?;
+    check_refused(sobol_table(GOOD, 0), Numbers(2, 2, 255, 0))?;
+    check_refused(sobol_table(GOOD, 33), Numbers(2, 2, 255, 0))?;
     // The list is tested before the number of digits, and that before any record.
-    check_refused(sobol_table(&GOOD[0..19], 33), Numbers(3, 1, 255, 0))?;
+    check_refused(sobol_table(&[0u8; 19], 33), Numbers(3, 1, 255, 0))?;
     check_refused(sobol_table(&[1u8; 20], 33), Numbers(2, 2, 255, 0))?;
-    check(sobol_table(&GOOD, 32).is_ok())
+    check(sobol_table(GOOD, 32).is_ok())
 }
 
 #[test]
@@ -100,7 +55,7 @@ fn one_byte_put_wrong() -> Result<(), Fail> {
         (26, 4, Numbers(6, 2, 1, 20)),
     ];
     for (place, value, expected) in cases {
-        let mut list = GOOD;
+        let mut list = *GOOD;
         check(place < 40)?;
         list[place] = value;
         check_refused(sobol_table(&list, 16), expected)?;
@@ -110,7 +65,7 @@ fn one_byte_put_wrong() -> Result<(), Fail> {
 
 #[test]
 fn a_record_bad_in_two_ways() -> Result<(), Fail> {
-    let mut list = GOOD;
+    let mut list = *GOOD;
     list[28] = 6;
     list[22] = 15;
     check_refused(sobol_table(&list, 16), Numbers(5, 2, 1, 20))?;
@@ -120,12 +75,12 @@ fn a_record_bad_in_two_ways() -> Result<(), Fail> {
 
 #[test]
 fn irreducible_is_not_primitive() -> Result<(), Fail> {
-    check_refused(sobol_table(&THIRTY_ONE, 16), Numbers(5, 2, 0, 0))
+    check_refused(sobol_table(THIRTY_ONE, 16), Numbers(5, 2, 0, 0))
 }
 
 #[test]
 fn a_refused_record_stays_the_next() -> Result<(), Fail> {
-    let mut list = GOOD;
+    let mut list = *GOOD;
     list[21] = 1;
     let mut reader = Reader::new(&list)?;
     let first = reader.next()?.ok_or("no first record")?;
@@ -139,7 +94,7 @@ fn a_refused_record_stays_the_next() -> Result<(), Fail> {
 
 #[test]
 fn records_come_with_their_places_and_end() -> Result<(), Fail> {
-    let mut reader = Reader::new(&GOOD)?;
+    let mut reader = Reader::new(GOOD)?;
     let first = reader.next()?.ok_or("no first record")?;
     let second = reader.next()?.ok_or("no second record")?;
     check_eq(first.place, 0)?;
@@ -161,7 +116,7 @@ fn rows_of_polynomial_eleven() -> Result<(), Fail> {
         [0, 0, 0, 0, 1, 1],
         [0, 0, 0, 0, 0, 1],
     ];
-    let table = sobol_table(&GOOD, 6)?;
+    let table = sobol_table(GOOD, 6)?;
     for row in 0..6u8 {
         for column in 0..6u8 {
             check_eq(

@@ -8,13 +8,15 @@ use lib.Dec.{ltb}
 abbrev pub place : ℕ → ℕ → ℕ → ℕ
 place j k l = j * 1024 + l * 32 + (k - 1)
 
--- the coordinate, the row and the column of a place
+-- the coordinate of a place
 abbrev pub coordinateAt : ℕ → ℕ
 coordinateAt i = i / 1024
 
+-- the row of a place, from 1
 abbrev pub rowAt : ℕ → ℕ
 rowAt i = i % 32 + 1
 
+-- the column of a place
 abbrev pub columnAt : ℕ → ℕ
 columnAt i = i / 32 % 32
 

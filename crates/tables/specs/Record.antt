@@ -29,6 +29,7 @@ initial bytes i = given (drop 4 bytes) i
 abbrev pub HeadOf : ℕ → ℕ → ℕ → Type 0
 HeadOf d z p = (d ≤ 8) × (z ≡ 0) × (p / 2 ^ d ≡ 1) × (p % 2 ≡ 1)
 
+-- the head of a record is sound
 abbrev pub Head : List ℕ → Type 0
 Head bytes = HeadOf (degree bytes) (getD bytes 1 0) (polynomial bytes)
 
@@ -36,6 +37,7 @@ Head bytes = HeadOf (degree bytes) (getD bytes 1 0) (polynomial bytes)
 abbrev pub TailOf : ℕ → List ℕ → Type 0
 TailOf d numbers = (i : ℕ) → d < i → i ≤ 8 → given numbers i ≡ 0
 
+-- the numbers of a record past m_degree are 0
 abbrev pub Tail : List ℕ → Type 0
 Tail bytes = TailOf (degree bytes) (drop 4 bytes)
 
