@@ -1,2 +1,4 @@
-pub mod Widths
+pub mod Cubes
+pub mod FieldAlgebra
 pub mod Testing
+pub mod Widths

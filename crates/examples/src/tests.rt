@@ -7,14 +7,16 @@ use std::test::*;
 use tables::raw::raw_table;
 use tables::reader::Reader;
 use tables::sobol::sobol_table;
-use tables::table::Table;
 
 // What a call should be refused with.
 #[derive(Clone, Copy)]
-struct Numbers(u8, u8, u8, usize);
+pub(crate) struct Numbers(pub u8, pub u8, pub u8, pub usize);
 
 // Checks that a call was refused with these numbers.
-fn check_refused(answer: Result<Table, Fault>, expected: Numbers) -> Result<(), Fail> {
+pub(crate) fn check_refused<T: Drop>(
+    answer: Result<T, Fault>,
+    expected: Numbers,
+) -> Result<(), Fail> {
     match answer {
         Ok(_) => Err(Fail::new("accepted")),
         Err(fault) => {

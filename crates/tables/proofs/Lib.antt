@@ -1,6 +1,6 @@
-pub mod Cubes
 pub mod Layouts
 pub mod Polynomials
+pub mod Powers
 pub mod Reading
 pub mod Recurrence
 pub mod SobolTables

@@ -1,4 +1,6 @@
+pub mod Columns
 pub mod Directions
+pub mod Faure
 pub mod Parts
 pub mod Places
 pub mod Primitive

@@ -2,7 +2,7 @@ use native.Mathlib.Omega.{arith}
 use mathlib.Core.Path.{refl, sym, subst}
 use Prim.Native.Nat.{_<_}
 use borrow.Author.Needs.{needs}
-use Rattle.tables.proofs.Cubes.{cube-place-below}
+use Rattle.base.proofs.Cubes.{cube-place-below}
 use Rattle.tables.proofs.raw.RawDigitRule.digit.Needs as need
 
 pub index-self-coordinate : need.index-self-coordinate

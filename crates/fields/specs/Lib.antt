@@ -1,0 +1,4 @@
+pub mod Bit
+pub mod Four
+pub mod Guarded
+pub mod Prime

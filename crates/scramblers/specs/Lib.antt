@@ -1,0 +1,9 @@
+pub mod Chain
+pub mod Keyed
+pub mod Keys
+pub mod Linear
+pub mod Matrices
+pub mod None
+pub mod Prefix
+pub mod Shapes
+pub mod Shift
