@@ -1,4 +1,5 @@
 pub mod Cubes
 pub mod FieldAlgebra
+pub mod SplitOrder
 pub mod Testing
 pub mod Widths

@@ -1,8 +1,10 @@
 pub mod Digits
 pub mod Faults
 pub mod Fields
+pub mod Nets
 pub mod Orders
 pub mod Points
 pub mod Scramblers
+pub mod Splits
 pub mod Tables
 pub mod Tests

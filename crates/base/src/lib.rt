@@ -2,3 +2,4 @@
 pub mod digits;
 pub mod faults;
 pub mod limits;
+pub mod splits;

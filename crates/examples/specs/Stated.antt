@@ -1,8 +1,9 @@
 -- The worked examples, each a fact about the definitions. Assumes nothing.
 use mathlib.Core.Path.{_≡_}
 use mathlib.Core.List.{List, [], _∷_}
-use Prim.Native.Nat.{ℕ}
+use Prim.Native.Nat.{ℕ, _^_}
 use Rattle.base.specs.Points.{point}
+use Rattle.checks.specs.Settings.{setting}
 use Rattle.fields.specs.Prime.{primeField}
 use Rattle.orders.specs.Gray.{grayOrder}
 use Rattle.orders.specs.Plain.{plainOrder}
@@ -33,6 +34,10 @@ abbrev pub FaurePoint : Type 0
 FaurePoint =
     point (primeField 3) (plainOrder 3 2) (noScrambler 3 2 3) (faureTable (primeField 3) 2 3) 5 ≡ 7 ∷ 1 ∷ 4 ∷ []
 
+-- q^M = 8, low 10, span 100: the numerator 7 gives 97
+abbrev pub SettingOfSeven : Type 0
+SettingOfSeven = setting (2 ^ 3) 10 100 7 ≡ 97
+
 -- all worked examples together
 abbrev pub WorkedExamples : Type 0
-WorkedExamples = Continues × GrayIndexes × KeyedWord × FaurePoint
+WorkedExamples = Continues × GrayIndexes × KeyedWord × FaurePoint × SettingOfSeven

@@ -4,8 +4,8 @@ ghost use Rattle.examples.specs.Stated.{WorkedExamples};
 
 /// The number of worked examples that are proved of the definitions, all of them in this contract.
 pub fn worked_examples() -> u8
-    ensures count { λ r. ⌜ r ≡ 4 ⌝ }
+    ensures count { λ r. ⌜ r ≡ 5 ⌝ }
     ensures stated { λ _. ⌜ WorkedExamples ⌝ }
 {
-    4
+    5
 }

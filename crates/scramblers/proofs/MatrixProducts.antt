@@ -21,7 +21,7 @@ use Rattle.base.specs.Scramblers.{ScramblerLaws, Word}
 use Rattle.base.specs.Tables.{Limits}
 use Rattle.scramblers.specs.Linear.{linearScrambler, linearWord, misplaced}
 use Rattle.scramblers.specs.Prefix.{byPrefix, scramblerOf}
-use Rattle.scramblers.proofs.Prefixes.{ScrambledUpTo, prefix-rule-keeps-laws, scrambled-all}
+use Rattle.scramblers.proofs.Prefixes.{ScrambledUpTo, kept-by-prefix, prefix-rule-keeps-laws, scrambled-all}
 use Rattle.scramblers.proofs.Words.{word-from-test}
 use Rattle.scramblers.specs.Shapes.{scrambles}
 use Rattle.scramblers.proofs.Triangles.{cell, linear-rule-digit, linear-rule-one-to-one, linearRule, matrix-above, matrix-digit}
@@ -107,11 +107,6 @@ module _ (F : FieldModel) (laws : FieldLaws F) (M s : ℕ) (C : List ℕ) (place
   scrambled-up now so-far =
       ext-getD 0 now (linearWord F M C j word) (so-far .size ∙ sym linear-length)
       (λ i l. so-far .done i (omega arith) (omega (arith, so-far .size)) ∙ sym (linear-digit i (omega (arith, so-far .size))))
-
--- where the rule is to keep the digit, the word stays
-kept-by-prefix : (before u : List ℕ) → byPrefix (λ _ a. a) before u ≡ u
-kept-by-prefix before [] = refl
-kept-by-prefix before (a ∷ u) = ap (λ w. a ∷ w) (kept-by-prefix (before ++ a ∷ []) u)
 
 pub linear-keeps-laws : (F : FieldModel) → FieldLaws F → (q M s : ℕ) (C : List ℕ) → Limits q M s → Placed q M s C
     → ScramblerLaws (linearScrambler F q M s C)

@@ -66,34 +66,42 @@ by-prefix-word q M rule digit u word =
           (digit (take i u) (getD u i 0) (omega (arith, length-take i u)) (digits-take q i u (word .1)) (word .1 i within)),
     )
 
--- a scrambler that does as the rule says, on the words that it has a say in
-module _ (q M s : ℕ) (rule : ℕ → List ℕ → ℕ → ℕ) (f : ℕ → List ℕ → List ℕ)
-    (agrees : (j : ℕ) (u : List ℕ) → j < s → Word q M u → f j u ≡ byPrefix (rule j) [] u) where
-  result-is : (j : ℕ) (u : List ℕ) → (j < s) × Word q M u → scramblerOf q M s f .scramble j u ≡ byPrefix (rule j) [] u
-  result-is j u h = scrambled-within q M s j u f h ∙ agrees j u (h .0) (h .1)
-
-  first-digits-are : (j k : ℕ) (u : List ℕ) → (j < s) × Word q M u
-      → take k (scramblerOf q M s f .scramble j u) ≡ byPrefix (rule j) [] (take k u)
-  first-digits-are j k u h = ap (take k) (result-is j u h) ∙ take-by-prefix (rule j) k [] u
-
-pub prefix-rule-keeps-laws : (q M s : ℕ) (rule : ℕ → List ℕ → ℕ → ℕ) (f : ℕ → List ℕ → List ℕ) → Limits q M s
-    → ((j : ℕ) (u : List ℕ) → j < s → Word q M u → f j u ≡ byPrefix (rule j) [] u)
+-- a scrambler that does as the rule says on the words that it has a say in, and leaves the others
+pub prefix-rule-laws : (q M s : ℕ) (rule : ℕ → List ℕ → ℕ → ℕ) (scramble : ℕ → List ℕ → List ℕ) → Limits q M s
+    → ((j : ℕ) (u : List ℕ) → j < s → Word q M u → scramble j u ≡ byPrefix (rule j) [] u)
+    → ((j : ℕ) (u : List ℕ) → ((j < s) × Word q M u → ⊥) → scramble j u ≡ u)
     → ((j : ℕ) (before : List ℕ) (a : ℕ) → j < s → length before < M → AllDigits q before → a < q → rule j before a < q)
     → ((j : ℕ) (before : List ℕ) (a b : ℕ) → j < s → length before < M → AllDigits q before → a < q → b < q → rule j before a ≡ rule j before b → a ≡ b)
-    → ScramblerLaws (scramblerOf q M s f)
-prefix-rule-keeps-laws q M s rule f limits agrees digit injective =
-    let first = first-digits-are q M s rule f agrees in
+    → ScramblerLaws (record { q = q; digits = M; coordinates = s; scramble = scramble })
+prefix-rule-laws q M s rule scramble limits agrees leaves digit injective =
+    let first : (j k : ℕ) (u : List ℕ) → (j < s) × Word q M u → take k (scramble j u) ≡ byPrefix (rule j) [] (take k u) =
+    λ j k u h. ap (take k) (agrees j u (h .0) (h .1)) ∙ take-by-prefix (rule j) k [] u in
     record {
       limits = limits;
       words = λ j u h.
-          rw (result-is q M s rule f agrees j u h) (by-prefix-word q M (rule j) (λ before a. digit j before a (h .0)) u (h .1));
+          rw (agrees j u (h .0) (h .1)) (by-prefix-word q M (rule j) (λ before a. digit j before a (h .0)) u (h .1));
       prefix = λ j k u v _ _ hu hv agree. first j k u hu ∙ ap (byPrefix (rule j) []) agree ∙ sym (first j k v hv);
       prefix-back = λ j k u v _ _ hu hv agree.
           by-prefix-injective q M (rule j) (λ before a b. injective j before a b (hu .0)) [] (take k u) (take k v)
           (omega (arith, length-take k u)) (λ i l. absurd (omega arith)) (digits-take q k u (hu .1 .1)) (digits-take q k v (hv .1 .1))
           (sym (first j k u hu) ∙ agree ∙ first j k v hv);
-      outside = λ j u none. scrambled-outside q M s j u f none;
+      outside = leaves;
     }
+
+-- the same of a scrambler with its test of words
+pub prefix-rule-keeps-laws : (q M s : ℕ) (rule : ℕ → List ℕ → ℕ → ℕ) (f : ℕ → List ℕ → List ℕ) → Limits q M s
+    → ((j : ℕ) (u : List ℕ) → j < s → Word q M u → f j u ≡ byPrefix (rule j) [] u)
+    → ((j : ℕ) (before : List ℕ) (a : ℕ) → j < s → length before < M → AllDigits q before → a < q → rule j before a < q)
+    → ((j : ℕ) (before : List ℕ) (a b : ℕ) → j < s → length before < M → AllDigits q before → a < q → b < q → rule j before a ≡ rule j before b → a ≡ b)
+    → ScramblerLaws (scramblerOf q M s f)
+prefix-rule-keeps-laws q M s rule f limits agrees =
+    prefix-rule-laws q M s rule (scramblerOf q M s f .scramble) limits
+    (λ j u h word. scrambled-within q M s j u f (h, word) ∙ agrees j u h word) (λ j u none. scrambled-outside q M s j u f none)
+
+-- where the rule is to keep the digit, the word stays
+pub kept-by-prefix : (before u : List ℕ) → byPrefix (λ _ a. a) before u ≡ u
+kept-by-prefix before [] = refl
+kept-by-prefix before (a ∷ u) = ap (λ w. a ∷ w) (kept-by-prefix (before ++ a ∷ []) u)
 
 -- ---- in place
 
