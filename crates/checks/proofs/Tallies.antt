@@ -8,7 +8,7 @@ use mathlib.Core.Bool.{Bool, cond}
 use mathlib.Core.List.{List, [], _∷_, _++_}
 use mathlib.Core.Logic.{_≢_, ⊎-elim}
 use Prim.Native.Nat.{ℕ, zero, suc, _+_, _-_, _*_, _/_, _^_, _<_, _≤_}
-use native.Mathlib.Nat.{add-sub-cancel-left, add-zero, mul-comm, mul-le-mul-right, one-le-pow, pow-le-pow-right, pow-suc, pow-zero, suc-mul}
+use native.Mathlib.Nat.{add-zero, lt-of-mul-lt-mul-right, mul-comm, mul-le-mul-right, one-le-pow, pow-le-pow-right, pow-suc, pow-zero, suc-mul, zero-mul}
 use native.Mathlib.Numerals.{add-one}
 use native.Mathlib.Omega.{arith}
 use borrow.Author.Count.{below-more}
@@ -17,8 +17,10 @@ use lib.ListN.{length, getD, take, drop, set}
 use lib.Pow.{pow-add}
 use Rattle.std.proofs.shelf.Bits.{div-below, mul-add-lt}
 use Rattle.std.proofs.shelf.Counted.{map-counting-more, length-map-counting}
-use Rattle.std.proofs.shelf.Lists.{drop-drop, drop-more, getD-drop, getD-set-other, getD-set-same, getD-take, length-drop, length-take, length-take-le, take-more}
+use Rattle.std.proofs.shelf.Lists.{drop-at, drop-drop, drop-more, getD-drop, getD-set-other, getD-set-same, getD-take, length-append, length-drop, length-take, take-at, take-more}
 use Rattle.std.proofs.shelf.Tests.{cases-eq, cond-both, cond-false, cond-true, eq-eqb, ne-eqb}
+use Rattle.std.specs.Parts.{chunks-exact-rest, chunks-exact-size}
+use Rattle.std.specs.declared.slice.ChunksExact.{ChunksExact}
 use Rattle.base.specs.Digits.{AllDigits}
 use Rattle.base.specs.Nets.{count, total}
 use Rattle.checks.specs.Counting.{cellOf, pointsOf}
@@ -150,26 +152,60 @@ Counted q M s counts n points counters =
 abbrev pub Kept : ℕ → List ℕ → List ℕ → List ℕ → Type 0
 Kept q counts before after = (c : ℕ) → q ^ total counts ≤ c → getD after c 0 ≡ getD before c 0
 
--- the numerators of the i-th of n points, as a part of the list of all
-abbrev pub part : ℕ → ℕ → List ℕ → List ℕ
-part s i points = take (i * s + s - i * s) (drop (i * s) points)
+-- ---- the points one after the other
 
-part-is-point : (s i : ℕ) (points : List ℕ) → part s i points ≡ take s (drop (i * s) points)
-part-is-point s i points = ap (λ k. take k (drop (i * s) points)) (add-sub-cancel-left (i * s) s)
+-- after i of n points, an iterator over them has the rest
+pub record Left (s n i : ℕ) (points : List ℕ) (t : ChunksExact ℕ) : Type 0 where
+  pub size : chunks-exact-size t ≡ s
+  pub within : i ≤ n
+  pub rest : chunks-exact-rest t ≡ drop (i * s) points
 
-pub part-within-points : (s n i : ℕ) → i < n → i * s + s ≤ n * s
-part-within-points s n i h = rw (← suc-mul i s) (mul-le-mul-right {m = suc i} {n = n} s h)
+-- a call of `next` gives a point
+abbrev pub Steps : ChunksExact ℕ → List ℕ → ChunksExact ℕ → Type 0
+Steps t point u =
+    (chunks-exact-size u ≡ chunks-exact-size t)
+    × ((chunks-exact-rest t ≡ point ++ chunks-exact-rest u) × (length point ≡ chunks-exact-size t))
 
-pub part-length : (s n i : ℕ) (points : List ℕ) → i < n → length points ≡ n * s → length (part s i points) ≡ s
-part-length s n i points h is =
-    ap length (part-is-point s i points)
-    ∙ length-take-le s (drop (i * s) points) (omega (arith, length-drop (i * s) points, part-within-points s n i h))
+pub all-left : (s n : ℕ) (points : List ℕ) (t : ChunksExact ℕ) → chunks-exact-size t ≡ s → chunks-exact-rest t ≡ points → Left s n 0 points t
+all-left s n points t size rest =
+    record { size = size; within = omega arith; rest = rest ∙ ap (λ k. drop k points) (sym (zero-mul s)) }
 
-pub part-digits : (Q s i : ℕ) (points : List ℕ) → AllDigits Q points → AllDigits Q (part s i points)
-part-digits Q s i points all k h =
-    let size = length-take (i * s + s - i * s) (drop (i * s) points) in
+pub next-length : (s n i : ℕ) (points point : List ℕ) (t u : ChunksExact ℕ) → Left s n i points t → Steps t point u → length point ≡ s
+next-length s n i points point t u left step = step .1 .1 ∙ left .size
+
+pub next-point : (s n i : ℕ) (points point : List ℕ) (t u : ChunksExact ℕ) → Left s n i points t → Steps t point u
+    → point ≡ take s (drop (i * s) points)
+next-point s n i points point t u left step =
+    sym (take-at point (chunks-exact-rest u) s (next-length s n i points point t u left step)) ∙ ap (take s) (sym (step .1 .0) ∙ left .rest)
+
+pub left-more : (s n i : ℕ) (points point : List ℕ) (t u : ChunksExact ℕ) → 1 ≤ s → length points ≡ n * s → Left s n i points t
+    → Steps t point u → Left s n (i + 1) points u
+left-more s n i points point t u some all left step =
+    let later = chunks-exact-rest u in
+    let size = next-length s n i points point t u left step in
+    let more : i < n = lt-of-mul-lt-mul-right s {m = i} {n = n}
+    (omega (arith, size, length-drop (i * s) points, length-append point later, ap length (left .rest), ap length (step .1 .0))) in
+    record {
+      size = step .0 ∙ left .size;
+      within = omega arith;
+      rest =
+          sym (drop-at point later s size) ∙ ap (drop s) (sym (step .1 .0) ∙ left .rest) ∙ drop-drop s (i * s) points
+          ∙ ap (λ k. drop k points) (sym (suc-mul i s) ∙ ap (λ k. k * s) (sym (add-one i)));
+    }
+
+pub none-left : (s n i : ℕ) (points : List ℕ) (t : ChunksExact ℕ) → length points ≡ n * s → Left s n i points t
+    → length (chunks-exact-rest t) < chunks-exact-size t → i ≡ n
+none-left s n i points t all left short =
+    ⊎-elim (λ e. e)
+    (λ ne. let before : i < n = omega (arith, left .within) in
+    let room : i * s + s ≤ n * s = rw (← suc-mul i s) (mul-le-mul-right {m = suc i} {n = n} s before) in
+    omega (arith, left .size, ap length (left .rest), length-drop (i * s) points)) (cases-eq i n)
+
+pub point-digits : (Q s i : ℕ) (points : List ℕ) → AllDigits Q points → AllDigits Q (take s (drop (i * s) points))
+point-digits Q s i points all k h =
+    let size = length-take s (drop (i * s) points) in
     let rest = length-drop (i * s) points in
-    let e = getD-take (i * s + s - i * s) (drop (i * s) points) k 0 (omega (arith, size)) ∙ getD-drop (i * s) points k 0 in
+    let e = getD-take s (drop (i * s) points) k 0 (omega (arith, size)) ∙ getD-drop (i * s) points k 0 in
     rw e (all (i * s + k) (omega (arith, size, rest)))
 
 -- a counter is at most the number of points
@@ -181,11 +217,11 @@ counter-within-points q M s counts n points counters c h counted =
     (length-map-counting (λ i. take s (drop (i * s) points)) 0 n)
     (count-within-length (λ p. eqb (cellOf q M 0 counts p) c) (pointsOf s n points)))
 
-pub counted-more : (q M s : ℕ) (counts : List ℕ) (n : ℕ) (points counters : List ℕ) (cell : ℕ) → cell < length counters
-    → cell ≡ cellOf q M 0 counts (part s n points) → Counted q M s counts n points counters
+pub counted-more : (q M s : ℕ) (counts : List ℕ) (n : ℕ) (points point counters : List ℕ) (cell : ℕ) → cell < length counters
+    → cell ≡ cellOf q M 0 counts point → point ≡ take s (drop (n * s) points) → Counted q M s counts n points counters
     → Counted q M s counts (n + 1) points (set counters cell (getD counters cell 0 + 1))
-counted-more q M s counts n points counters cell room told before c h =
-    let is = told ∙ ap (cellOf q M 0 counts) (part-is-point s n points) in
+counted-more q M s counts n points point counters cell room told next before c h =
+    let is = told ∙ ap (cellOf q M 0 counts) next in
     let x = take s (drop (n * s) points) in
     let P : List ℕ → Bool = λ p. eqb (cellOf q M 0 counts p) c in
     let more : count P (pointsOf s (n + 1) points) ≡ count P (pointsOf s n points) + cond (P x) 1 0 =

@@ -45,8 +45,8 @@ fn tally(grid: &Grid, counts: &[u8], n: usize, points: &[u32], counters: &mut [u
     ensures rest { λ _. ⌜ ((c : ℕ) → now (grid .entry) .q ^ total (now (counts .entry)) ≤ c → getD (now (counters .exit)) c 0 ≡ getD (now (counters .entry)) c 0) ⌝ }
 {
     let s = grid.coordinates as usize;
-    for i in 0..n {
-        let cell = cell_of(grid, counts, &points[i * s..i * s + s]);
+    for point in points.chunks_exact(s) {
+        let cell = cell_of(grid, counts, point);
         counters[cell as usize] += 1;
     }
 }
