@@ -54,6 +54,17 @@ fn settings_refused_in_order() -> Result<(), Fail> {
         settings(2, 3, 1, &[8], &[none, FULL], &mut out),
         Numbers(3, 5, 255, 0),
     )?;
+    check_eq(out[0], 5)
+}
+
+#[test]
+fn numerators_before_spans() -> Result<(), Fail> {
+    let mut out = [5u16];
+    let none = Travel { low: 0, span: 0 };
+    let too_far = Travel {
+        low: 1,
+        span: 65536,
+    };
     check_refused(
         settings(2, 3, 1, &[8], &[none], &mut out),
         Numbers(7, 5, 255, 0),
@@ -63,17 +74,7 @@ fn settings_refused_in_order() -> Result<(), Fail> {
         Numbers(8, 5, 255, 0),
     )?;
     check_refused(
-        settings(
-            2,
-            3,
-            1,
-            &[7],
-            &[Travel {
-                low: 1,
-                span: 65536,
-            }],
-            &mut out,
-        ),
+        settings(2, 3, 1, &[7], &[too_far], &mut out),
         Numbers(8, 5, 255, 0),
     )?;
     check_eq(out[0], 5)
