@@ -1,0 +1,68 @@
+-- Words and numbers: the words of k digits, read as numbers in base q, are exactly the numbers below q^k. Assumes nothing.
+use mathlib.Core.Path.{_≡_, refl, sym, _∙_, ap, ap₂, subst}
+use mathlib.Core.List.{List, [], _∷_, _++_}
+use Prim.Native.Nat.{ℕ, zero, suc, _+_, _-_, _*_, _/_, _%_, _^_, _<_, _≤_}
+use native.Mathlib.Nat.{div-add-mod', mod-lt, mul-comm, one-le-pow, pow-suc, pow-zero}
+use native.Mathlib.Omega.{arith}
+use lib.ListN.{getD, length}
+use Rattle.std.proofs.shelf.Bits.{div-below, div-mul-add, mod-mul-add, mul-add-lt}
+use Rattle.base.specs.Digits.{AllDigits}
+use Rattle.base.specs.Points.{numerator}
+use Rattle.base.specs.Scramblers.{Word}
+
+-- the word of k digits that is read as n
+abbrev pub wordOf : ℕ → ℕ → ℕ → List ℕ
+wordOf q zero n = []
+wordOf q (suc k) n = n / q ^ k ∷ wordOf q k (n % q ^ k)
+
+pub word-head : (q k x : ℕ) (xs : List ℕ) → Word q (suc k) (x ∷ xs) → x < q
+word-head q k x xs w = w .1 0 (omega arith)
+
+pub word-tail : (q k x : ℕ) (xs : List ℕ) → Word q (suc k) (x ∷ xs) → Word q k xs
+word-tail q k x xs w = (omega (arith, w .0), λ i h. w .1 (suc i) (omega (arith, h)))
+
+pub word-cons : (q k x : ℕ) (xs : List ℕ) → x < q → Word q k xs → Word q (suc k) (x ∷ xs)
+word-cons q k x xs h w = (ap suc (w .0), each)
+  where
+    each : AllDigits q (x ∷ xs)
+    each zero l = h
+    each (suc i) l = w .1 i (omega (arith, l))
+
+pow-more : (q k : ℕ) → q ^ suc k ≡ q * q ^ k
+pow-more q k = pow-suc q k ∙ mul-comm (q ^ k) q
+
+pub word-number-below : (q k : ℕ) (w : List ℕ) → Word q k w → numerator q w < q ^ k
+word-number-below q zero [] w = omega (arith, pow-zero q)
+word-number-below q zero (x ∷ xs) w = omega (arith, w .0)
+word-number-below q (suc k) [] w = omega (arith, w .0)
+word-number-below q (suc k) (x ∷ xs) w =
+    let tail = word-tail q k x xs w in
+    rw (pow-suc q k)
+    (subst (λ l. x * q ^ l + numerator q xs < q ^ k * q) (sym (tail .0))
+    (mul-add-lt x (q ^ k) (numerator q xs) q (word-head q k x xs w) (word-number-below q k xs tail)))
+
+pub word-of-number : (q k n : ℕ) → 1 ≤ q → n < q ^ k → Word q k (wordOf q k n)
+word-of-number q zero n some h = (refl, λ i l. elim l [ ])
+word-of-number q (suc k) n some h =
+    let pos : 0 < q ^ k = one-le-pow k q some in
+    word-cons q k (n / q ^ k) (wordOf q k (n % q ^ k)) (div-below n (q ^ k) q pos (rw (← pow-more q k) h))
+    (word-of-number q k (n % q ^ k) some (mod-lt n pos))
+
+pub number-of-word-of : (q k n : ℕ) → 1 ≤ q → n < q ^ k → numerator q (wordOf q k n) ≡ n
+number-of-word-of q zero n some h = omega (arith, pow-zero q, h)
+number-of-word-of q (suc k) n some h =
+    let pos : 0 < q ^ k = one-le-pow k q some in
+    let below = mod-lt n pos in
+    ap₂ (λ l x. n / q ^ k * q ^ l + x) (word-of-number q k (n % q ^ k) some below .0) (number-of-word-of q k (n % q ^ k) some below)
+    ∙ div-add-mod' n (q ^ k)
+
+pub word-of-number-of : (q k : ℕ) (w : List ℕ) → Word q k w → wordOf q k (numerator q w) ≡ w
+word-of-number-of q zero [] w = refl
+word-of-number-of q zero (x ∷ xs) w = let no : 1 ≤ 0 = omega (arith, w .0) in elim no [ ]
+word-of-number-of q (suc k) [] w = let no : 1 ≤ 0 = omega (arith, w .0) in elim no [ ]
+word-of-number-of q (suc k) (x ∷ xs) w =
+    let tail = word-tail q k x xs w in
+    let below = word-number-below q k xs tail in
+    let is : numerator q (x ∷ xs) ≡ x * q ^ k + numerator q xs = ap (λ l. x * q ^ l + numerator q xs) (tail .0) in
+    ap₂ _∷_ (ap (λ n. n / q ^ k) is ∙ div-mul-add x (q ^ k) (numerator q xs) below)
+    (ap (λ n. wordOf q k (n % q ^ k)) is ∙ ap (wordOf q k) (mod-mul-add x (q ^ k) (numerator q xs) below) ∙ word-of-number-of q k xs tail)

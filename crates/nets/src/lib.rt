@@ -1,0 +1,2 @@
+//! Blocks of points. Each statement stands on the contract of a function that has nothing to do.
+pub mod statements;
