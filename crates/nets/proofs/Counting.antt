@@ -4,7 +4,7 @@ use mathlib.Core.Path.{_≡_, refl, sym, _∙_, ap, ap₂}
 use mathlib.Core.Bool.{cond}
 use mathlib.Core.Logic.{⊎-elim}
 use Prim.Native.Nat.{ℕ, zero, suc, _+_, _*_, _<_, _≤_}
-use native.Mathlib.Nat.{add-zero, one-mul, suc-mul, zero-mul}
+use native.Mathlib.Nat.{add-mul, add-suc, add-zero, mul-suc, mul-zero, one-mul, suc-mul, zero-mul}
 use native.Mathlib.Numerals.{add-one}
 use native.Mathlib.Omega.{arith}
 use lib.Dec.{eqb}
@@ -36,6 +36,25 @@ pub sum-swapped : (n m : ℕ) (f : ℕ → ℕ → ℕ) → sumBelow n (λ i. su
 sum-swapped zero m f = sym (sum-of-zeros m)
 sum-swapped (suc n) m f =
     ap (λ x. x + sumBelow m (f n)) (sum-swapped n m f) ∙ sym (sum-of-sums m (λ j. sumBelow n (λ i. f i j)) (f n))
+
+pub sum-of-equals : (n x : ℕ) → sumBelow n (λ i. x) ≡ x * n
+sum-of-equals zero x = sym (mul-zero x)
+sum-of-equals (suc n) x = ap (λ k. k + x) (sum-of-equals n x) ∙ sym (mul-suc x n)
+
+pub sum-of-multiples : (n w : ℕ) (f : ℕ → ℕ) → sumBelow n (λ i. f i * w) ≡ sumBelow n f * w
+sum-of-multiples zero w f = sym (zero-mul w)
+sum-of-multiples (suc n) w f = ap (λ k. k + f n * w) (sum-of-multiples n w f) ∙ sym (add-mul (sumBelow n f) (f n) w)
+
+-- a sum in two parts
+pub sum-joined : (a b : ℕ) (f : ℕ → ℕ) → sumBelow (a + b) f ≡ sumBelow a f + sumBelow b (λ i. f (a + i))
+sum-joined a zero f = ap (λ k. sumBelow k f) (add-zero a) ∙ sym (add-zero (sumBelow a f))
+sum-joined a (suc b) f = ap (λ k. sumBelow k f) (add-suc a b) ∙ omega (arith, sum-joined a b f)
+
+-- a sum in n parts of w
+pub sum-in-parts : (n w : ℕ) (f : ℕ → ℕ) → sumBelow (n * w) f ≡ sumBelow n (λ i. sumBelow w (λ x. f (i * w + x)))
+sum-in-parts zero w f = ap (λ k. sumBelow k f) (zero-mul w)
+sum-in-parts (suc n) w f =
+    ap (λ k. sumBelow k f) (suc-mul n w) ∙ sum-joined (n * w) w f ∙ ap (λ x. x + sumBelow w (λ i. f (n * w + i))) (sum-in-parts n w f)
 
 -- a sum with one term that is not 0
 pub sum-of-none : (n v : ℕ) (g : ℕ → ℕ) → n ≤ v → sumBelow n (λ j. cond (eqb v j) (g j) 0) ≡ 0

@@ -2,11 +2,12 @@
 use mathlib.Core.Path.{_≡_, refl, sym, _∙_, ap, ap₂, subst}
 use mathlib.Core.List.{List, [], _∷_, _++_}
 use Prim.Native.Nat.{ℕ, zero, suc, _+_, _-_, _*_, _/_, _%_, _^_, _<_, _≤_}
-use native.Mathlib.Nat.{div-add-mod', mod-lt, mul-comm, one-le-pow, pow-suc, pow-zero}
+use native.Mathlib.Nat.{div-add-mod', div-div-eq-div-mul, div-one, mod-lt, mul-comm, one-le-pow, pow-suc, pow-zero}
 use native.Mathlib.Omega.{arith}
 use lib.ListN.{getD, length}
 use Rattle.std.proofs.shelf.Bits.{div-below, div-mul-add, mod-mul-add, mul-add-lt}
 use Rattle.base.specs.Digits.{AllDigits}
+use Rattle.base.specs.Orders.{digit}
 use Rattle.base.specs.Points.{numerator}
 use Rattle.base.specs.Scramblers.{Word}
 
@@ -66,3 +67,13 @@ word-of-number-of q (suc k) (x ∷ xs) w =
     let is : numerator q (x ∷ xs) ≡ x * q ^ k + numerator q xs = ap (λ l. x * q ^ l + numerator q xs) (tail .0) in
     ap₂ _∷_ (ap (λ n. n / q ^ k) is ∙ div-mul-add x (q ^ k) (numerator q xs) below)
     (ap (λ n. wordOf q k (n % q ^ k)) is ∙ ap (wordOf q k) (mod-mul-add x (q ^ k) (numerator q xs) below) ∙ word-of-number-of q k xs tail)
+
+-- the digits of n q + x: x, and those of n
+pub lowest-digit : (q n x : ℕ) → x < q → digit q (n * q + x) 0 ≡ x
+lowest-digit q n x h =
+    ap (λ w. (n * q + x) / w % q) (pow-zero q) ∙ ap (λ y. y % q) (div-one (n * q + x)) ∙ mod-mul-add n q x h
+
+pub higher-digit : (q n x l : ℕ) → x < q → digit q (n * q + x) (suc l) ≡ digit q n l
+higher-digit q n x l h =
+    ap (λ w. (n * q + x) / w % q) (pow-more q l)
+    ∙ ap (λ y. y % q) (sym (div-div-eq-div-mul (n * q + x) q (q ^ l)) ∙ ap (λ y. y / q ^ l) (div-mul-add n q x h))
