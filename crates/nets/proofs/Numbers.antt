@@ -2,10 +2,12 @@
 use mathlib.Core.Path.{_≡_, refl, sym, _∙_, ap, ap₂, subst}
 use mathlib.Core.List.{List, [], _∷_, _++_}
 use Prim.Native.Nat.{ℕ, zero, suc, _+_, _-_, _*_, _/_, _%_, _^_, _<_, _≤_}
-use native.Mathlib.Nat.{div-add-mod', div-div-eq-div-mul, div-one, mod-lt, mul-comm, one-le-pow, pow-suc, pow-zero}
+use native.Mathlib.Nat.{div-add-mod', div-div-eq-div-mul, div-eq-of-lt, div-one, mod-lt, mul-add-div-right, mul-assoc, mul-comm, one-le-pow, pow-suc, pow-zero}
 use native.Mathlib.Omega.{arith}
-use lib.ListN.{getD, length}
+use lib.ListN.{getD, length, take}
+use lib.Pow.{pow-add}
 use Rattle.std.proofs.shelf.Bits.{div-below, div-mul-add, mod-mul-add, mul-add-lt}
+use Rattle.std.proofs.shelf.Lists.{length-take-le}
 use Rattle.base.specs.Digits.{AllDigits}
 use Rattle.base.specs.Orders.{digit}
 use Rattle.base.specs.Points.{numerator}
@@ -77,3 +79,22 @@ pub higher-digit : (q n x l : ℕ) → x < q → digit q (n * q + x) (suc l) ≡
 higher-digit q n x l h =
     ap (λ w. (n * q + x) / w % q) (pow-more q l)
     ∙ ap (λ y. y % q) (sym (div-div-eq-div-mul (n * q + x) q (q ^ l)) ∙ ap (λ y. y / q ^ l) (div-mul-add n q x h))
+
+-- ---- leading digits
+
+-- floor(X / q^(M-d)) is the number of the first d digits of the word that is read as X
+pub leading-number : (q M d : ℕ) (w : List ℕ) → 1 ≤ q → d ≤ M → Word q M w → numerator q w / q ^ (M - d) ≡ numerator q (take d w)
+leading-number q M zero w some h word =
+    div-eq-of-lt (subst (λ k. numerator q w < q ^ k) (omega arith) (word-number-below q M w word))
+leading-number q zero (suc d) w some h word = elim h [ ]
+leading-number q (suc M) (suc d) [] some h word = let no : 1 ≤ 0 = omega (arith, word .0) in elim no [ ]
+leading-number q (suc M) (suc d) (x ∷ xs) some h word =
+    let tail = word-tail q M x xs word in
+    let rest : suc M - suc d ≡ M - d = omega arith in
+    let pos : 0 < q ^ (M - d) = one-le-pow (M - d) q some in
+    let split : q ^ M ≡ q ^ d * q ^ (M - d) = ap (λ k. q ^ k) (omega (arith, h)) ∙ pow-add q d (M - d) in
+    let whole : numerator q (x ∷ xs) ≡ x * q ^ d * q ^ (M - d) + numerator q xs =
+    ap (λ k. x * q ^ k + numerator q xs) (tail .0) ∙ ap (λ k. x * k + numerator q xs) split ∙ ap (λ k. k + numerator q xs) (sym (mul-assoc x (q ^ d) (q ^ (M - d)))) in
+    ap₂ (λ n k. n / q ^ k) whole rest
+    ∙ mul-add-div-right pos (x * q ^ d) (numerator q xs)
+    ∙ ap₂ (λ k n. x * q ^ k + n) (sym (length-take-le d xs (omega (arith, h, tail .0)))) (leading-number q M d xs some (omega (arith, h)) tail)
