@@ -1,6 +1,7 @@
 -- Sums over a field: sums of sums, of multiples, in the other order, and from the first term on. Assumes nothing.
 use mathlib.Core.Path.{_≡_, refl, sym, _∙_, ap, ap₂}
-use Prim.Native.Nat.{ℕ, zero, suc, _<_}
+use Prim.Native.Nat.{ℕ, zero, suc, _+_, _<_}
+use native.Mathlib.Nat.{add-suc, add-zero}
 use native.Mathlib.Omega.{arith}
 use Rattle.base.proofs.FieldAlgebra.{product-zero-right, sum-over-digit, sum-zero-right, zero-digit}
 use Rattle.base.specs.Fields.{FieldLaws, FieldModel, sumOver}
@@ -55,3 +56,14 @@ module _ (F : FieldModel) (laws : FieldLaws F) where
       ap (λ x. F .sum x (f (suc n))) (sum-over-first n f (λ i h. a i (omega (arith, h))))
       ∙ laws .sum-assoc (f 0) (sumOver F n (λ i. f (suc i))) (f (suc n)) (a 0 (omega arith)) (sum-over-digit F laws n (λ i. f (suc i)) later)
       (a (suc n) (omega arith))
+
+  -- a sum in two parts
+  pub sum-over-joined : (a b : ℕ) (f : ℕ → ℕ) → ((i : ℕ) → i < a + b → f i < F .q)
+      → sumOver F (a + b) f ≡ F .sum (sumOver F a f) (sumOver F b (λ i. f (a + i)))
+  sum-over-joined a zero f digits =
+      ap (λ k. sumOver F k f) (add-zero a) ∙ sym (sum-zero-right F laws (sumOver F a f) (sum-over-digit F laws a f (λ i h. digits i (omega (arith, h)))))
+  sum-over-joined a (suc b) f digits =
+      ap (λ k. sumOver F k f) (add-suc a b)
+      ∙ ap (λ x. F .sum x (f (a + b))) (sum-over-joined a b f (λ i h. digits i (omega (arith, h))))
+      ∙ laws .sum-assoc (sumOver F a f) (sumOver F b (λ i. f (a + i))) (f (a + b)) (sum-over-digit F laws a f (λ i h. digits i (omega (arith, h))))
+      (sum-over-digit F laws b (λ i. f (a + i)) (λ i h. digits (a + i) (omega (arith, h)))) (digits (a + b) (omega arith))

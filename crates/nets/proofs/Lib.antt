@@ -1,3 +1,4 @@
+pub mod BlockRows
 pub mod Counting
 pub mod Dependence
 pub mod FieldSums

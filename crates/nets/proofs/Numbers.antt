@@ -2,7 +2,7 @@
 use mathlib.Core.Path.{_≡_, refl, sym, _∙_, ap, ap₂, subst}
 use mathlib.Core.List.{List, [], _∷_, _++_}
 use Prim.Native.Nat.{ℕ, zero, suc, _+_, _-_, _*_, _/_, _%_, _^_, _<_, _≤_}
-use native.Mathlib.Nat.{div-add-mod', div-div-eq-div-mul, div-eq-of-lt, div-one, mod-lt, mul-add-div-right, mul-assoc, mul-comm, one-le-pow, pow-suc, pow-zero}
+use native.Mathlib.Nat.{add-comm, add-mul-mod-self-right, div-add-mod', div-div-eq-div-mul, div-eq-of-lt, div-one, mod-lt, mul-add-div-right, mul-assoc, mul-comm, one-le-pow, pow-suc, pow-zero}
 use native.Mathlib.Omega.{arith}
 use lib.ListN.{getD, length, take}
 use lib.Pow.{pow-add}
@@ -79,6 +79,22 @@ pub higher-digit : (q n x l : ℕ) → x < q → digit q (n * q + x) (suc l) ≡
 higher-digit q n x l h =
     ap (λ w. (n * q + x) / w % q) (pow-more q l)
     ∙ ap (λ y. y % q) (sym (div-div-eq-div-mul (n * q + x) q (q ^ l)) ∙ ap (λ y. y / q ^ l) (div-mul-add n q x h))
+
+-- the digits of c q^m + r, with r below q^m: at and above q^m those of c, below it those of r
+pub digit-above : (q m c r l : ℕ) → r < q ^ m → digit q (c * q ^ m + r) (m + l) ≡ digit q c l
+digit-above q m c r l h =
+    ap (λ w. (c * q ^ m + r) / w % q) (pow-add q m l)
+    ∙ ap (λ x. x % q) (sym (div-div-eq-div-mul (c * q ^ m + r) (q ^ m) (q ^ l)) ∙ ap (λ x. x / q ^ l) (div-mul-add c (q ^ m) r h))
+
+pub digit-under : (q m c r l : ℕ) → 1 ≤ q → l < m → digit q (c * q ^ m + r) l ≡ digit q r l
+digit-under q m c r l some h =
+    let k = m - suc l in
+    let pos : 0 < q ^ l = one-le-pow l q some in
+    let split : q ^ m ≡ q ^ suc k * q ^ l = ap (λ e. q ^ e) (omega (arith, h)) ∙ pow-add q (suc k) l in
+    let whole : c * q ^ m + r ≡ c * q ^ suc k * q ^ l + r = ap (λ x. c * x + r) split ∙ ap (λ x. x + r) (sym (mul-assoc c (q ^ suc k) (q ^ l))) in
+    let tens : c * q ^ suc k ≡ c * q ^ k * q = ap (λ x. c * x) (pow-suc q k) ∙ sym (mul-assoc c (q ^ k) q) in
+    ap (λ x. x / q ^ l % q) whole ∙ ap (λ x. x % q) (mul-add-div-right pos (c * q ^ suc k) r) ∙ ap (λ x. (x + r / q ^ l) % q) tens
+    ∙ ap (λ x. x % q) (add-comm (c * q ^ k * q) (r / q ^ l)) ∙ add-mul-mod-self-right (r / q ^ l) (c * q ^ k) q
 
 -- ---- leading digits
 
