@@ -1,4 +1,6 @@
 //! The test program of blocks and runs: prints the least t of blocks of points, and a run on a direction list.
+#![tactic(auto)]
+
 mod blocks;
 mod formula;
 mod runs;

@@ -1,4 +1,6 @@
 //! The test program: prints a direction list with its table, the parts of the engine at work, and what is refused.
+#![tactic(auto)]
+
 mod arithmetic;
 #[cfg(test)]
 mod check_tests;

@@ -1,4 +1,6 @@
 //! Digit fields: sum, product, negative and inverse of the digits below q.
+#![tactic(auto)]
+
 pub mod bit;
 pub mod field;
 pub mod four;

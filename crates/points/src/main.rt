@@ -1,5 +1,7 @@
 //! Reads a direction list from standard input, at most 65,520 bytes, and runs it with M = 16, in plain order and with no scrambling:
 //! prints the first eight positions with their numerators, and the verdict on m = 0 to 3; or the one line of a refusal.
+#![tactic(auto)]
+
 mod plan;
 mod printed;
 

@@ -1,4 +1,6 @@
 //! The run: points one after the other, by position, with a verdict on their blocks.
+#![tactic(auto)]
+
 pub(crate) mod advance;
 pub(crate) mod coordinate;
 pub(crate) mod cursor;

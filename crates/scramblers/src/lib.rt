@@ -1,4 +1,6 @@
 //! Scramblers: they turn the digits of a coordinate into other digits, keeping which prefixes agree.
+#![tactic(auto)]
+
 pub mod chain;
 pub mod keyed;
 pub mod linear;

@@ -1,4 +1,6 @@
 //! Digit tables, and the direction lists that Sobol' tables are built from.
+#![tactic(auto)]
+
 pub mod directions;
 pub mod faure;
 mod primitive;

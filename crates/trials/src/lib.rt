@@ -1,4 +1,6 @@
 //! The tests of sets of points and of runs.
+#![tactic(auto)]
+
 #[cfg(test)]
 mod net_tests;
 #[cfg(test)]
