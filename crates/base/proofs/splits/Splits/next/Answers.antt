@@ -13,7 +13,7 @@ returns-then-place-eq0 c =
     let counts = c.args.self.now.counts in
     let size : length (take n counts) ≡ n = length-take-le n counts (omega arith) in
     let empty : EmptyPast 0 (take n counts) =
-    λ k low high. get_or-take n counts k 0 (omega arith) ∙ c.last-giver-place.ensures.empty k (omega arith) (omega arith) in
+    λ k low high. get_or-take n counts k 0 (omega arith) ∙ c.last_giver-place.ensures.empty k (omega arith) (omega arith) in
     record {
       same = (refl, refl);
       last = λ _. (refl, λ other s. none_after_all_first (take n counts) other empty (omega arith));
@@ -47,7 +47,7 @@ pub returns : goal.returns
 returns c =
     let n = c.args.self.now.coordinates in
     let counts = c.args.self.now.counts in
-    let place = c.last-giver-place.result in
+    let place = c.last_giver-place.result in
     let giver : Giver n place counts = search rules in
     let xs = take n counts in
     let ys = take n (stepped n place counts) in
