@@ -1,6 +1,6 @@
 -- Coordinate, row and column counted through, as the bytes of a raw table are: the place is below their product.
 -- Assumes nothing.
-use Rattle.std.proofs.Common.{◌≡◌, ℕ, ◌+◌, ◌-◌, ◌*◌, ◌<◌, sym, ◌∙◌, subst, mul_assoc, mul_comm, arith}
+use Rattle.std.proofs.Common.{ℕ, ◌+◌, ◌-◌, ◌*◌, ◌<◌, sym, ◌∙◌, subst, mul_assoc, mul_comm, arith}
 use Rattle.std.proofs.lemmas.Nat.{mul-add-lt}
 use Rattle.base.specs.Tables.{Inside}
 

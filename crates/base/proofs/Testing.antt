@@ -1,7 +1,7 @@
 -- Tests in turn: none of them finds a fault if none does at any place, and the first place with a fault gives its refusal.
 -- So it is with bytes that should be digits.
 -- Assumes nothing.
-use Rattle.std.proofs.Common.{◌≡◌, ℕ, zero, suc, ◌+◌, ◌<◌, ◌≤◌, ◌⊎◌, List, [], ◌∷◌, ◌++◌, length, get_or, sym, refl, subst, inl, inr, ⊎_elim, arith}
+use Rattle.std.proofs.Common.{ℕ, zero, suc, ◌+◌, ◌<◌, ◌≤◌, List, [], ◌∷◌, ◌++◌, length, get_or, sym, refl, subst, inl, inr, ⊎_elim, arith}
 use Rattle.std.proofs.lemmas.Bool.{cases_eq}
 use Rattle.base.specs.Digits.{AllDigits, FirstBad, digit_tests}
 use Rattle.base.specs.Faults.{Refusal, refusal}

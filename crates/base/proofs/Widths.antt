@@ -1,5 +1,5 @@
 -- Within the limits a word has at most 32 digits. Assumes nothing.
-use Rattle.std.proofs.Common.{ℕ, ◌^◌, ◌<◌, ◌≤◌, ⊎_elim, arith}
+use Rattle.std.proofs.Common.{ℕ, ◌^◌, ◌≤◌, ⊎_elim, arith}
 use native.Mathlib.Nat.{pow-le-pow_left}
 use lib.Pow.{pow-lt}
 use Rattle.std.proofs.lemmas.Bool.{cases_lt}

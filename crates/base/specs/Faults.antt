@@ -1,5 +1,5 @@
 -- The numbers of faults, and what a fault prints. Assumes nothing.
-use Rattle.std.specs.Prelude.{ℕ, List, [], ◌∷◌, ◌++◌, codes, decimal}
+use Rattle.std.specs.Prelude.{ℕ, List, ◌++◌, codes, decimal}
 use Rattle.base.specs.declared.faults.Kind.{Kind}
 use Rattle.base.specs.declared.faults.Kind.TheVariants.{NotPrime, OutOfRange, WrongLength, BadLayout, NotPrimitive, BadDirection, BadDigit, OutOfReach, Mismatch, EmptyRun, Finished, OutOfMemory}
 use Rattle.base.specs.declared.faults.Layer.{Layer}

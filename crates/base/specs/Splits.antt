@@ -1,5 +1,5 @@
 -- The splits in their order: by the first count, then the second, and so on. Assumes nothing.
-use Rattle.std.specs.Prelude.{◌≡◌, ℕ, suc, ◌+◌, ◌-◌, ◌*◌, ◌^◌, ◌<◌, Bool, ◌⊎◌, List, [], ◌∷◌, length, take}
+use Rattle.std.specs.Prelude.{◌≡◌, ℕ, suc, ◌+◌, ◌-◌, ◌*◌, ◌^◌, ◌<◌, ◌⊎◌, List, [], ◌∷◌, length, take}
 use Rattle.base.specs.Nets.{Split}
 use Rattle.base.specs.declared.splits.Splits.{Splits}
 

@@ -12,8 +12,8 @@ returns g c =
     let s = table.coordinates in
     let f = point (g.F.Field.means c.args.field.now) (g.O.Order.means c.args.order.now)
     (g.S.Scrambler.means c.args.scrambler.now) (model table) in
-    let xs = c.write-points.new.out in
-    let size : length xs ≡ c.in-ok-points.points.len =
-    omega (arith, ap length c.as-mut-slice.ensures.value, c.in-ok-points.points.ok.0) in
-    ap (points_of s (table.q ^ c.args.m)) (take_at xs _ c.in-ok-points.points.len size)
-    ∙ subst (λ n. points_of s n xs ≡ map f (range_with_len (c.args.block * n) n)) c.power-count.ensures c.write-points.ensures
+    let xs = c.write_points.new.out in
+    let size : length xs ≡ c.in_ok-points.points.len =
+    omega (arith, ap length c.as_mut_slice.ensures.value, c.in_ok-points.points.ok.0) in
+    ap (points_of s (table.q ^ c.args.m)) (take_at xs _ c.in_ok-points.points.len size)
+    ∙ subst (λ n. points_of s n xs ≡ map f (range_with_len (c.args.block * n) n)) c.power-count.ensures c.write_points.ensures

@@ -2,8 +2,8 @@ use native.Mathlib.Nat.{one-le-pow}
 use Rattle.std.proofs.Common.{◌-◌, ◌^◌, ◌≤◌, ap, ◌∙◌, arith}
 use Rattle.block_examples.proofs.blocks.last_block.Goals as goal
 
-pub overflow-sub-result : goal.overflow-sub-result
-overflow-sub-result c =
+pub overflow_sub-result : goal.overflow_sub-result
+overflow_sub-result c =
     let table = c.args.table.now in
     let some : 1 ≤ table.q = omega (arith, table.base) in
     omega (arith, c.power.ensures, one-le-pow (c.digits.result - c.args.m) table.q some)

@@ -11,8 +11,8 @@ block_within q M m b last h count few =
     let all : M - m + m ≡ M = omega arith in
     subst (λ n. (b + 1) * q ^ m ≤ n) (sym (pow-add q (M - m) m) ∙ ap (λ k. q ^ k) all) (mul-le-mul_right (q ^ m) more)
 
-pub block-points-requires : goal.block-points-requires
-block-points-requires g c =
+pub block_points-requires : goal.block_points-requires
+block_points-requires g c =
     let table = c.args.table.now in
     let m = c.args.m in
     let low : m ≤ table.digits = omega (arith, c.digits.ensures) in
@@ -20,8 +20,8 @@ block-points-requires g c =
       agree = (c.if-not-agree.ensures.0 refl).words;
       within = (
         low,
-        block_within table.q table.digits m c.args.block c.last-block.result low c.last-block.ensures
-            c.if-block-last-block.false,
+        block_within table.q table.digits m c.args.block c.last_block.result low c.last_block.ensures
+            c.if-block-last_block.false,
       );
     }
 
@@ -29,9 +29,9 @@ pub returns : goal.returns
 returns g c =
     let m = c.args.m in
     let table = c.args.table.now in
-    let xs = c.as-slice.result.now in
-    let t = c.in-ok-least-t.field-0 in
+    let xs = c.as_slice.result.now in
+    let t = c.in_ok-least_t.field-0 in
     subst (λ points. Least (λ u. Net table.q table.digits table.coordinates u m points) t)
-    (ap (points_of table.coordinates (table.q ^ m)) c.as-slice.ensures.value ∙ c.in-ok-points.ensures)
+    (ap (points_of table.coordinates (table.q ^ m)) c.as_slice.ensures.value ∙ c.in_ok-points.ensures)
     (subst₃ (λ q M s. Least (λ u. Net q M s u m (points_of s (q ^ m) xs)) t) c.q.ensures c.digits-2.ensures c.coordinates.ensures
-    c.in-ok-least-t.ensures.answer.1.0)
+    c.in_ok-least_t.ensures.answer.1.0)

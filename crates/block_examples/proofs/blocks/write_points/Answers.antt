@@ -30,9 +30,9 @@ loop-i-preserved g c =
     let s = c.coordinates-coordinates.result in
     let i = c.loop-i.i in
     let xs = c.loop-i.out in
-    let ys = c.write-point.new.out in
+    let ys = c.write_point.new.out in
     let table = c.args.table.now in
-    let size : length ys ≡ s = ap length c.write-point.ensures ∙ length-map-range_with_len _ 0 table.coordinates ∙ sym c.coordinates-coordinates.ensures in
+    let size : length ys ≡ s = ap length c.write_point.ensures ∙ length-map-range_with_len _ 0 table.coordinates ∙ sym c.coordinates-coordinates.ensures in
     let fits : i * s ≤ length xs = omega (
       arith,
       c.requires.size,
@@ -41,7 +41,7 @@ loop-i-preserved g c =
     ) in
     below_more _ i
     (λ k h. point_kept s i k (i * s + s - i * s) xs ys h fits ∙ c.loop-i.invariant k h)
-    (point_written s i (i * s + s - i * s) xs ys size fits ∙ c.write-point.ensures)
+    (point_written s i (i * s + s - i * s) xs ys size fits ∙ c.write_point.ensures)
 
 pub returns : goal.returns
 returns g c =

@@ -4,8 +4,8 @@ use Rattle.base.specs.Points.{numerator}
 use Rattle.block_examples.proofs.WordNumbers.{next_number, next_number_below}
 use Rattle.block_examples.proofs.formula.number_of.Goals as goal
 
-pub overflow-mul-number : goal.overflow-mul-number
-overflow-mul-number c =
+pub overflow_mul-number : goal.overflow_mul-number
+overflow_mul-number c =
     omega (
       arith,
       ap (λ q. c.loop-digit.number * q) c.from.ensures,
@@ -13,8 +13,8 @@ overflow-mul-number c =
           c.requires.0 c.requires.1 c.loop-digit-test.true c.loop-digit.invariant,
     )
 
-pub overflow-add-number : goal.overflow-add-number
-overflow-add-number c =
+pub overflow_add-number : goal.overflow_add-number
+overflow_add-number c =
     omega (
       arith,
       ap (λ q. c.loop-digit.number * q) c.from.ensures,

@@ -12,7 +12,7 @@ loop-coordinate-preserved g c k h =
     let S = g.S.Scrambler.means c.args.scrambler.now in
     let table = model c.args.table.now in
     let f : ℕ → ℕ = λ j. numerator table.q (S.scramble j (word F table j c.index-index.result)) in
-    ap (λ x. get_or (set c.loop-coordinate.out c.loop-coordinate.coordinate x) k 0) c.numerator-at.ensures
+    ap (λ x. get_or (set c.loop-coordinate.out c.loop-coordinate.coordinate x) k 0) c.numerator_at.ensures
     ∙ fill_by_more f c.loop-coordinate.out c.loop-coordinate.coordinate 0 (omega (arith, c.requires.size)) c.loop-coordinate.invariant k h
 
 pub returns : goal.returns

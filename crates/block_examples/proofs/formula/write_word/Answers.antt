@@ -8,7 +8,7 @@ use Rattle.block_examples.proofs.formula.write_word.Goals as goal
 pub loop-row-preserved : goal.loop-row-preserved
 loop-row-preserved g c k h =
     let f : ℕ → ℕ = λ i. row (g.F.Field.means c.args.field.now) (model c.args.table.now) c.args.coordinate c.args.index (i + 1) in
-    ap (λ x. get_or (set c.loop-row.word c.loop-row.row x) k 0) c.row-at.ensures
+    ap (λ x. get_or (set c.loop-row.word c.loop-row.row x) k 0) c.row_at.ensures
     ∙ fill_by_more f c.loop-row.word c.loop-row.row 0 (omega (arith, c.requires.1)) c.loop-row.invariant k h
 
 pub returns : goal.returns

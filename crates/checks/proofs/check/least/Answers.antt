@@ -6,8 +6,8 @@ use Rattle.checks.proofs.CellNumbers.{points_within, power_positive}
 use Rattle.checks.specs.Counting.{points_of}
 use Rattle.checks.proofs.check.least.Goals as goal
 
-pub returns-then-all-splits-even : goal.returns-then-all-splits-even
-returns-then-all-splits-even c =
+pub returns-then-all_splits_even : goal.returns-then-all_splits_even
+returns-then-all_splits_even c =
     let x = c.args.grid.now in
     record {
       answer =
@@ -16,20 +16,20 @@ returns-then-all-splits-even c =
                 record {
                   size = length_points x.coordinates c.args.n c.args.points.now ∙ c.requires.sizes.1;
                   within = omega arith;
-                  even = c.if-all-splits-even.ensures.answer.0 refl;
+                  even = c.if-all_splits_even.ensures.answer.0 refl;
                 };
             first = c.loop-t.invariant.1;
           };
-      same = c.all-splits-even.ensures.same ∙ c.loop-t.invariant.0;
+      same = c.all_splits_even.ensures.same ∙ c.loop-t.invariant.0;
     }
 
 pub loop-t-preserved : goal.loop-t-preserved
 loop-t-preserved c =
     let x = c.args.grid.now in (
-      c.all-splits-even.ensures.same ∙ c.loop-t.invariant.0,
+      c.all_splits_even.ensures.same ∙ c.loop-t.invariant.0,
       below_more (λ u. Net x.q x.digits x.coordinates u c.args.m (points_of x.coordinates c.args.n c.args.points.now) → ⊥)
           c.loop-t.t c.loop-t.invariant.1
-          (λ net. not_from_Decides c.all-splits-even.result c.all-splits-even.ensures.answer c.if-all-splits-even.false net.even),
+          (λ net. not_from_Decides c.all_splits_even.result c.all_splits_even.ensures.answer c.if-all_splits_even.false net.even),
     )
 
 pub returns : goal.returns

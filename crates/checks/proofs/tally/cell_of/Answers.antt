@@ -12,8 +12,8 @@ loop-j-init c = (refl, omega (arith, pow-zero c.args.grid.now.q))
 pub bounds-grid-d : goal.bounds-grid-d
 bounds-grid-d c = omega (arith, c.requires.1.0, c.args.grid.now.narrow, count_within_total c.args.counts.now c.loop-j.j)
 
-pub overflow-mul-cell : goal.overflow-mul-cell
-overflow-mul-cell c =
+pub overflow_mul-cell : goal.overflow_mul-cell
+overflow_mul-cell c =
     let g = c.args.grid.now in
     let ds = c.args.counts.now in
     let j = c.loop-j.j in
@@ -24,16 +24,16 @@ overflow-mul-cell c =
       cells_fit g.q g.digits g.powers ds (j + 1) (grid_powers g) c.requires.1.0,
     )
 
-pub overflow-sub-cell : goal.overflow-sub-cell
-overflow-sub-cell c = omega (arith, c.requires.1.0, count_within_total c.args.counts.now c.loop-j.j)
+pub overflow_sub-cell : goal.overflow_sub-cell
+overflow_sub-cell c = omega (arith, c.requires.1.0, count_within_total c.args.counts.now c.loop-j.j)
 
 pub nonzero-div-cell : goal.nonzero-div-cell
 nonzero-div-cell c =
     let g = c.args.grid.now in
     divisor_is_some g.q g.digits g.powers (get_or c.args.counts.now c.loop-j.j 0) (grid_powers g)
 
-pub overflow-add-cell : goal.overflow-add-cell
-overflow-add-cell c =
+pub overflow_add-cell : goal.overflow_add-cell
+overflow_add-cell c =
     let g = c.args.grid.now in
     let ds = c.args.counts.now in
     let j = c.loop-j.j in

@@ -12,8 +12,8 @@ pub bounds-grid-d : goal.bounds-grid-d
 bounds-grid-d c =
     omega (arith, c.requires, c.args.grid.now.narrow, count_within_total c.args.counts.now c.loop-d.d-index)
 
-pub overflow-mul-cells : goal.overflow-mul-cells
-overflow-mul-cells c =
+pub overflow_mul-cells : goal.overflow_mul-cells
+overflow_mul-cells c =
     let g = c.args.grid.now in
     let ds = c.args.counts.now in
     let d = c.loop-d.d-index in

@@ -47,8 +47,8 @@ returns c =
     let points = points_of s c.args.n xs in
     let before = c.args.counters.now in
     let after = c.tally.new.counters in
-    let k = c.cells-of-cells.result - 0 in
-    let cells_are : k ≡ q ^ total counts = omega (arith, c.cells-of-cells.ensures) in
+    let k = c.cells_of-cells.result - 0 in
+    let cells_are : k ≡ q ^ total counts = omega (arith, c.cells_of-cells.ensures) in
     let kept : length after ≡ length before = c.tally.auto.counters in
     let room : k ≤ length before = omega (arith, c.requires.sizes.2) in
     let base = c.args.grid.now.base.0 in
@@ -56,9 +56,9 @@ returns c =
     let even = even_by_numbers q M c.args.expected counts points base c.requires.fits.2 within in
     record {
       answer =
-          Decides-like c.all-equal-even.result (λ all. even.0 (λ i below. all i (omega arith))) (λ e i below. even.1 e i (omega arith))
-          (counters_decide c.all-equal-even.result k c.args.expected after (λ i. count (λ p. eqb (cell_of q M 0 counts p) i) points) (omega arith)
-          (λ i below. c.tally.ensures.counted i (omega arith)) c.all-equal-even.ensures);
+          Decides-like c.all_equal-even.result (λ all. even.0 (λ i below. all i (omega arith))) (λ e i below. even.1 e i (omega arith))
+          (counters_decide c.all_equal-even.result k c.args.expected after (λ i. count (λ p. eqb (cell_of q M 0 counts p) i) points) (omega arith)
+          (λ i below. c.tally.ensures.counted i (omega arith)) c.all_equal-even.ensures);
       same =
           ap (λ part. part ++ drop k after) (c.clear.ensures ∙ ap (λ n. replicate n 0) (length-take-le k after (omega arith)))
           ∙ cleared_is_before k before after room kept (λ i below. c.requires.zero i (omega arith)) (λ i past. c.tally.ensures.rest i (omega arith));

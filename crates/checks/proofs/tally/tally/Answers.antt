@@ -7,15 +7,15 @@ use Rattle.checks.proofs.tally.tally.Goals as goal
 pub loop-point-init : goal.loop-point-init
 loop-point-init c =
     let g = c.args.grid.now in
-    let told = c.chunks-exact-point-items.ensures in (
+    let told = c.chunks_exact-point-items.ensures in (
       c.requires.zero,
       λ k h. refl,
       subst (Left g.coordinates c.args.n 0 c.args.points.now) (sym c.into-iter-point-iterator.ensures.into-iter-gives)
-          (all_left g.coordinates c.args.n c.args.points.now c.chunks-exact-point-items.result told.size told.rest),
+          (all_left g.coordinates c.args.n c.args.points.now c.chunks_exact-point-items.result told.size told.rest),
     )
 
-pub cell-of-cell-requires : goal.cell-of-cell-requires
-cell-of-cell-requires c =
+pub cell_of-cell-requires : goal.cell_of-cell-requires
+cell_of-cell-requires c =
     let g = c.args.grid.now in
     let points = c.args.points.now in
     let i = length c.loop-point.yielded in
@@ -29,15 +29,15 @@ cell-of-cell-requires c =
       (c.requires.fits.1, subst (AllDigits (g.q ^ g.digits)) (sym is) (point_digits (g.q ^ g.digits) g.coordinates i points c.requires.fits.2)),
     )
 
-pub overflow-add-counters : goal.overflow-add-counters
-overflow-add-counters c =
+pub overflow_add-counters : goal.overflow_add-counters
+overflow_add-counters c =
     let g = c.args.grid.now in
     omega (
       arith,
       c.requires.fits.0,
       c.loop-point.invariant.2.within,
       counter_within_points g.q g.digits g.coordinates c.args.counts.now (length c.loop-point.yielded) c.args.points.now
-          c.loop-point.counters c.cell-of-cell.result c.cell-of-cell.ensures.bound c.loop-point.invariant.0,
+          c.loop-point.counters c.cell_of-cell.result c.cell_of-cell.ensures.bound c.loop-point.invariant.0,
     )
 
 pub loop-point-preserved : goal.loop-point-preserved
@@ -52,8 +52,8 @@ loop-point-preserved c =
     let point = c.in-Some.point.now in
     let before = c.loop-point.point-iterator in
     let after = c.next.new.self in
-    let cell = c.cell-of-cell.result in
-    let told = c.cell-of-cell.ensures in
+    let cell = c.cell_of-cell.result in
+    let told = c.cell_of-cell.ensures in
     let left = c.loop-point.invariant.2 in
     let step = c.in-Some.ensures.steps in
     let more = sym (length_push c.loop-point.yielded c.in-Some.point) in (

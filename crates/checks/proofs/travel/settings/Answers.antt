@@ -3,4 +3,4 @@ use Rattle.checks.proofs.travel.settings.Goals as goal
 
 pub returns : goal.returns
 returns c =
-    record { answer = c.tested-settings.ensures.answer; refused = c.tested-settings.ensures.refused; grows = settings_grow }
+    record { answer = c.tested_settings.ensures.answer; refused = c.tested_settings.ensures.refused; grows = settings_grow }

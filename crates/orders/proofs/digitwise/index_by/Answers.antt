@@ -26,14 +26,14 @@ next_index_small g c =
       next_weight_small c.loop-place.invariant size.digits (rw same size.base) (rw same size.width) c.loop-place-test.true,
     )
 
-pub overflow-mul-index : goal.overflow-mul-index
-overflow-mul-index g c = omega (arith, next_index_small g c)
+pub overflow_mul-index : goal.overflow_mul-index
+overflow_mul-index g c = omega (arith, next_index_small g c)
 
-pub overflow-add-index : goal.overflow-add-index
-overflow-add-index g c = omega (arith, next_index_small g c)
+pub overflow_add-index : goal.overflow_add-index
+overflow_add-index g c = omega (arith, next_index_small g c)
 
-pub overflow-mul-weight : goal.overflow-mul-weight
-overflow-mul-weight g c = omega (arith, next_index_small g c)
+pub overflow_mul-weight : goal.overflow_mul-weight
+overflow_mul-weight g c = omega (arith, next_index_small g c)
 
 pub loop-place-preserved : goal.loop-place-preserved
 loop-place-preserved g c =

@@ -43,10 +43,10 @@ loop-column-preserved g c =
             | then-a-b w ↦
                 let by : w.add.result ≡ F.sum (digit q c.args.to l) (F.negative (digit q c.args.from l)) =
                 w.add.ensures ∙ ap₂ F.sum b_is (w.neg.ensures ∙ ap F.negative a_is) in
-                let moved : MovedUpTo F T c.args.from c.args.to (l + 1) w.change-all.new.coordinates (c.loop-column.changed + 1) =
-                moved_changed F T over c.args.from c.args.to l c.loop-column.coordinates w.change-all.new.coordinates c.loop-column.changed
+                let moved : MovedUpTo F T c.args.from c.args.to (l + 1) w.change_all.new.coordinates (c.loop-column.changed + 1) =
+                moved_changed F T over c.args.from c.args.to l c.loop-column.coordinates w.change_all.new.coordinates c.loop-column.changed
                 inside (λ e. w.if-a-b.true (a_is ∙ e ∙ sym b_is))
-                (subst (λ d. Changed F T l d T.coordinates c.loop-column.coordinates w.change-all.new.coordinates) by (w.change-all.ensures inside))
+                (subst (λ d. Changed F T l d T.coordinates c.loop-column.coordinates w.change_all.new.coordinates) by (w.change_all.ensures inside))
                 so_far in
                 subst₂ (MovedUpTo F T c.args.from c.args.to (l + 1)) (sym w.coordinates-is) (sym w.changed-is) moved
             | else-a-b w ↦

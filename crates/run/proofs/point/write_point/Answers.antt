@@ -8,10 +8,10 @@ loop-j-preserved g c =
     let S = g.S.Scrambler.means c.args.scrambler.now in
     let out = c.loop-j.out in
     let j = c.loop-j.j in
-    let x = c.coordinate-numerator.result in
+    let x = c.coordinate_numerator.result in
     let inside : j < length out = omega arith in (
       length-set out j x ∙ c.loop-j.invariant.0,
       below_more (λ k. Writes S c.args.q c.args.digits c.args.coordinates.now k (get_or (set out j x) k 0)) j
           (λ k h. let ne : k ≢ j = omega arith in rw get_or-set_other (c.loop-j.invariant.1 k h))
-          (rw get_or-set_same (record { size = c.coordinate-numerator.ensures.size; value = c.coordinate-numerator.ensures.value })),
+          (rw get_or-set_same (record { size = c.coordinate_numerator.ensures.size; value = c.coordinate_numerator.ensures.value })),
     )

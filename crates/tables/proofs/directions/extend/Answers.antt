@@ -21,14 +21,14 @@ loop-i-preserved c =
     let x = c.if-i-degree.numbers in
     let next : (x ≡ direction d p first i) × (x < 2 ^ i) = elim c.if-i-degree.branch [
       | then-i-degree w ↦
-          let is : x ≡ first i = w.numbers-is ∙ w.from.ensures ∙ w.number-at.ensures in (
+          let is : x ≡ first i = w.numbers-is ∙ w.from.ensures ∙ w.number_at.ensures in (
             is ∙ sym ((direction_obeys d p first 32).starts i c.loop-i.auto.i w.if-i-degree.true (omega arith)),
             rw is (c.requires.1.1 i c.loop-i.auto.i w.if-i-degree.true).1,
           )
       | else-i-degree w ↦ (
-        w.numbers-is ∙ w.next-number.ensures.value
+        w.numbers-is ∙ w.next_number.ensures.value
             ∙ next_direction d p first (λ j. get_or ms (j - 1) 0) i (omega arith) w.if-i-degree.false (λ k a b. (c.loop-i.invariant.1 k b a).0),
-        rw w.numbers-is w.next-number.ensures.bound,
+        rw w.numbers-is w.next_number.ensures.bound,
       )
     ] in (
       length-set ms (i - 1) x ∙ c.loop-i.invariant.0,

@@ -18,9 +18,9 @@ loop-n-preserved g c =
           rw w.columns-is
           (column_of_one F laws n columns low before w.one.result w.if-n-eq0.true w.one.ensures.size w.one.ensures.coefficients)
       | else-n-eq0 w ↦
-          let size : length w.times-a-plus-x.result ≡ 32 = search rules in
-          let are : NextUpTo F (n / 32) (get_or columns (n - 1) []) 32 w.times-a-plus-x.result = w.times-a-plus-x.ensures in
+          let size : length w.times_a_plus_x.result ≡ 32 = search rules in
+          let are : NextUpTo F (n / 32) (get_or columns (n - 1) []) 32 w.times_a_plus_x.result = w.times_a_plus_x.ensures in
           rw w.columns-is
-          (column_from_last F laws n columns low before w.times-a-plus-x.result w.if-n-eq0.false size are)
+          (column_from_last F laws n columns low before w.times_a_plus_x.result w.if-n-eq0.false size are)
     ] in
     (search rules, columns_with_next F laws n columns low before c.if-n-eq0.columns (omega arith) is)

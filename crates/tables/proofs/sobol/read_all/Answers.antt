@@ -18,17 +18,17 @@ returns-in-err-numbers c =
     let l = c.loop-record in
     rw (p.1, p.2)
     (refused_record c.args.reader.list.now l.reader.list.now l.coordinates l.reader.place
-    c.next.new.self.place l.numbers l.invariant.0 l.invariant.1 c.in-ok-record.field-0
-    c.in-Some.«record» c.in-Some.is c.in-ok-record.ensures.answer _ c.in-err-numbers.ensures)
+    c.next.new.self.place l.numbers l.invariant.0 l.invariant.1 c.in_ok-record.field-0
+    c.in-Some.«record» c.in-Some.is c.in_ok-record.ensures.answer _ c.in-err-numbers.ensures)
 
 pub loop-record-preserved : goal.loop-record-preserved
 loop-record-preserved c =
     let l = c.loop-record in
-    let numbers = c.in-ok-numbers.ensures in (
-      c.in-ok-record.ensures.same ∙ l.invariant.0,
+    let numbers = c.in_ok-numbers.ensures in (
+      c.in_ok-record.ensures.same ∙ l.invariant.0,
       read_more c.args.reader.list.now l.reader.list.now l.coordinates l.reader.place
-          c.next.new.self.place l.numbers l.invariant.0 l.invariant.1 c.in-ok-record.field-0
-          c.in-Some.«record» c.in-Some.is c.in-ok-record.ensures.answer _ c.in-ok-numbers.field-0
+          c.next.new.self.place l.numbers l.invariant.0 l.invariant.1 c.in_ok-record.field-0
+          c.in-Some.«record» c.in-Some.is c.in_ok-record.ensures.answer _ c.in_ok-numbers.field-0
           refl numbers.0 numbers.1,
     )
 
@@ -36,5 +36,5 @@ pub returns : goal.returns
 returns c =
     let l = c.loop-record in
     read_all c.args.reader.list.now l.reader.list.now l.coordinates l.reader.place
-    c.next.new.self.place l.numbers l.invariant.0 l.invariant.1 c.in-ok-record.field-0
-    (search rules) (search rules) c.in-default.not-Some c.in-ok-record.ensures.answer
+    c.next.new.self.place l.numbers l.invariant.0 l.invariant.1 c.in_ok-record.field-0
+    (search rules) (search rules) c.in-default.not-Some c.in_ok-record.ensures.answer

@@ -10,10 +10,10 @@ loop-k-init g c =
 
 pub loop-k-preserved : goal.loop-k-preserved
 loop-k-preserved g c = (
-  length-set c.loop-k.rows c.loop-k.k c.plus-multiple.result ∙ c.loop-k.invariant.0,
+  length-set c.loop-k.rows c.loop-k.k c.plus_multiple.result ∙ c.loop-k.invariant.0,
   cleared_more (g.F.Field.means c.args.field.now) c.args.columns c.args.own c.args.pivot c.args.rows.now
-      c.loop-k.k c.mul.result c.neg-factor.result c.loop-k.rows c.plus-multiple.result (omega arith) (omega arith)
-      c.mul.ensures c.neg-factor.ensures c.plus-multiple.ensures c.loop-k.invariant.1,
+      c.loop-k.k c.mul.result c.neg-factor.result c.loop-k.rows c.plus_multiple.result (omega arith) (omega arith)
+      c.mul.ensures c.neg-factor.ensures c.plus_multiple.ensures c.loop-k.invariant.1,
 )
 
 pub returns : goal.returns

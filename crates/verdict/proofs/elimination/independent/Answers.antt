@@ -20,7 +20,7 @@ loop-own-preserved g c =
       search rules,
       reduced_more (g.F.Field.means x) (g.met.F.Field.keeps x) c.args.count c.args.columns c.loop-own.own
           c.args.rows c.loop-own.rows c.loop-own.invariant.1 (omega arith)
-          c.in-Some.pivot c.clear-below.new.rows c.in-Some.ensures c.clear-below.ensures,
+          c.in-Some.pivot c.clear_below.new.rows c.in-Some.ensures c.clear_below.ensures,
     )
 
 pub returns : goal.returns

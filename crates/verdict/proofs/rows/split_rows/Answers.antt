@@ -13,8 +13,8 @@ room c =
     place_fits c.args.counts.now c.args.columns c.loop-row.next c.loop-coordinate.coordinate c.loop-row.row c.requires.1
     (record { coordinate = c.loop-coordinate-test.true; row = c.loop-row-test.true }) c.loop-row.invariant.1
 
-pub table-row-requires : goal.table-row-requires
-table-row-requires c = (omega arith, omega arith, omega (arith, room c), omega arith)
+pub table_row-requires : goal.table_row-requires
+table_row-requires c = (omega arith, omega arith, omega (arith, room c), omega arith)
 
 pub offset-bounds-rows-next : goal.offset-bounds-rows-next
 offset-bounds-rows-next c = omega (arith, room (goal.at.offset-bounds-rows-next c).In-loop-row, c.args.table.now.narrow)
@@ -22,21 +22,21 @@ offset-bounds-rows-next c = omega (arith, room (goal.at.offset-bounds-rows-next 
 pub bounds-rows-next : goal.bounds-rows-next
 bounds-rows-next c = omega (arith, room (goal.at.bounds-rows-next c).In-loop-row, c.args.table.now.narrow)
 
-pub overflow-add-next : goal.overflow-add-next
-overflow-add-next c = omega (arith, room (goal.at.overflow-add-next c).In-loop-row, c.args.table.now.narrow)
+pub overflow_add-next : goal.overflow_add-next
+overflow_add-next c = omega (arith, room (goal.at.overflow_add-next c).In-loop-row, c.args.table.now.narrow)
 
 pub loop-row-preserved : goal.loop-row-preserved
 loop-row-preserved c =
     let n = c.loop-row.next in
     let rows = c.loop-row.rows in
     let counts = c.args.counts.now in (
-      length-set rows n c.table-row.result ∙ c.loop-row.invariant.0,
+      length-set rows n c.table_row.result ∙ c.loop-row.invariant.0,
       omega (arith, c.loop-row.invariant.1),
       split_rows_more (model c.args.table.now) counts c.args.columns n c.loop-coordinate.coordinate c.loop-row.row rows
-          c.table-row.result
+          c.table_row.result
           (omega (arith, room (goal.at.loop-row-preserved c).In-loop-row, c.args.table.now.narrow, c.loop-row.invariant.0)) c.loop-row.invariant.1
           (record { coordinate = c.loop-coordinate-test.true; row = c.loop-row-test.true })
-          c.table-row.ensures c.loop-row.invariant.2,
+          c.table_row.ensures c.loop-row.invariant.2,
     )
 
 pub loop-coordinate-preserved : goal.loop-coordinate-preserved

@@ -7,8 +7,8 @@ use Rattle.verdict.proofs.SplitAnswers.{split_decides, split_digits, table_over}
 use Rattle.verdict.proofs.SplitFilling.{rows_before_more, rows_before_most}
 use Rattle.verdict.proofs.search.split_passes.Goals as goal
 
-pub overflow-add-count : goal.overflow-add-count
-overflow-add-count g c =
+pub overflow_add-count : goal.overflow_add-count
+overflow_add-count g c =
     let counts = c.args.counts.now in
     let j = c.loop-d.d-index in
     omega (arith, rows_before_more counts j (omega arith), rows_before_most counts (suc j), c.args.table.now.narrow)
@@ -28,7 +28,7 @@ independent-requires g c =
     let counts = c.args.counts.now in
     let all : c.loop-d.count ≡ total counts = c.loop-d.invariant ∙ ap total (take_all c.loop-d.d-index counts c.loop-d-test.false) in (
       (omega (arith, all, table.narrow), omega (arith, table.narrow)),
-      split_digits F (model table) counts c.args.m c.loop-d.count c.split-rows.result all c.split-rows.ensures
+      split_digits F (model table) counts c.args.m c.loop-d.count c.split_rows.result all c.split_rows.ensures
           (table_over F (g.met.F.Field.keeps x) table c.requires.0) c.requires.1.0 c.requires.1.1 c.requires.1.2,
     )
 
@@ -37,4 +37,4 @@ returns g c =
     let counts = c.args.counts.now in
     let all : c.loop-d.count ≡ total counts = c.loop-d.invariant ∙ ap total (take_all c.loop-d.d-index counts c.loop-d-test.false) in
     split_decides (g.F.Field.means c.args.field.now) (model c.args.table.now) counts c.args.m c.loop-d.count
-    c.split-rows.result all c.split-rows.ensures c.independent.result c.independent.ensures
+    c.split_rows.result all c.split_rows.ensures c.independent.result c.independent.ensures

@@ -23,24 +23,24 @@ returns-then-place-eq0 c =
     }
 
 -- the place before has less than the sum, which fits
-pub overflow-add-counts : goal.overflow-add-counts
-overflow-add-counts c =
+pub overflow_add-counts : goal.overflow_add-counts
+overflow_add-counts c =
     let n = c.args.self.now.coordinates in
     let counts = c.args.self.now.counts in
-    let place = c.last-giver-place.result in
+    let place = c.last_giver-place.result in
     let giver : Giver n place counts = search rules in
     omega (arith, before_fits n place counts giver)
 
 -- the sum is the same
-pub invariant-of-self : goal.invariant-of-self
-invariant-of-self c =
+pub invariant_of-self : goal.invariant_of-self
+invariant_of-self c =
     let n = c.args.self.now.coordinates in
     let counts = c.args.self.now.counts in
-    let place = c.last-giver-place.result in
+    let place = c.last_giver-place.result in
     let giver : Giver n place counts = search rules in
     let whole : total (take n (stepped n place counts)) ≡ c.args.self.now.sum =
     omega (arith, stepped_split n place counts giver) in
-    (c.args.self.now.some, (c.args.self.now.few, (whole, tt)))
+    record { some = c.args.self.now.some; few = c.args.self.now.few; whole = whole }
 
 -- the split steps to the next one
 pub returns : goal.returns

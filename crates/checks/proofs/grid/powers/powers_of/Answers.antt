@@ -6,8 +6,8 @@ use Rattle.checks.proofs.grid.powers.powers_of.Goals as goal
 pub loop-i-init : goal.loop-i-init
 loop-i-init c = (refl, first_power c.args.q (replicate 32 1))
 
-pub overflow-mul-powers : goal.overflow-mul-powers
-overflow-mul-powers c =
+pub overflow_mul-powers : goal.overflow_mul-powers
+overflow_mul-powers c =
     omega (
       arith,
       next_power_fits c.args.q c.args.digits c.loop-i.i c.from.result c.loop-i.powers c.requires.1.0 c.requires.0.1

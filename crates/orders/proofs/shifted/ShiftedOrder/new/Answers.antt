@@ -11,10 +11,10 @@ zero_at_each (suc n) (suc k) = zero_at_each n k
 
 pub loop-place-init : goal.loop-place-init
 loop-place-init c =
-    let size = c.in-ok-size.size in
+    let size = c.in_ok-size.size in
     record {
       few =
-          omega (arith, at_most_32_digits size.q size.digits size.base.0 size.width.1, c.in-ok-size.ensures.1.1);
+          omega (arith, at_most_32_digits size.q size.digits size.base.0 size.width.1, c.in_ok-size.ensures.1.1);
       size = refl;
       held = λ k h. absurd (omega arith);
       spare = λ k h. zero_at_each 32 k;

@@ -59,8 +59,8 @@ returns g c =
           subst (λ i. Present F T (digit T.q i) c.present-coordinates.result) c.index.ensures
           (c.present-coordinates.ensures shows.agree.field_q (subst (λ i. i < T.q ^ T.digits) (sym c.index.ensures) below)) in
           at_answers P T over shows.agree ordering (g.met.S.Scrambler.keeps c.args.scrambler.now) o.position c.args.position
-          (length c.args.out.now) c.present-coordinates.result c.write-point.new.out low present fits c.write-point.ensures.size
-          (λ j h. subst₂ (λ q M. Writes S q M c.present-coordinates.result j (get_or c.write-point.new.out j 0)) c.q.ensures c.digits.ensures
-          (c.write-point.ensures.numerators j h));
+          (length c.args.out.now) c.present-coordinates.result c.write_point.new.out low present fits c.write_point.ensures.size
+          (λ j h. subst₂ (λ q M. Writes S q M c.present-coordinates.result j (get_or c.write_point.new.out j 0)) c.q.ensures c.digits.ensures
+          (c.write_point.ensures.numerators j h));
       refused = λ no_refusal. absurd (true≢false no_refusal);
     }

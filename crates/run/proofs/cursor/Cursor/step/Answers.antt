@@ -60,20 +60,20 @@ returns g c =
           let ordering = g.met.O.Order.keeps c.args.order.now in
           let scrambling = g.met.S.Scrambler.keeps c.args.scrambler.now in
           let present = shows.present low in
-          let after = c.advance-one-changed.new.coordinates in
+          let after = c.advance_one-changed.new.coordinates in
           let moved : o.position + 1 < T.q ^ T.digits
-          → Moved F T (P.order.index o.position) (P.order.index (o.position + 1)) o.coordinates after c.advance-one-changed.result =
-          λ h. c.advance-one-changed.ensures.moved (omega (arith, h, c.positions.ensures)) in
-          let last : T.q ^ T.digits ≤ o.position + 1 → c.advance-one-changed.result ≡ 0 =
-          λ h. c.advance-one-changed.ensures.last (omega (arith, h, c.positions.ensures)) in (
-            step_answers P T over shows.agree ordering o.position c.advance-one-changed.result o.coordinates
-                after low moved last present scrambling (length c.args.out.now) c.write-point.new.out fits
-                c.write-point.ensures.size
-                (λ j h. subst₂ (λ q M. Writes P.scrambler q M o.coordinates j (get_or c.write-point.new.out j 0)) c.q.ensures c.digits.ensures
-                (c.write-point.ensures.numerators j h)),
+          → Moved F T (P.order.index o.position) (P.order.index (o.position + 1)) o.coordinates after c.advance_one-changed.result =
+          λ h. c.advance_one-changed.ensures.moved (omega (arith, h, c.positions.ensures)) in
+          let last : T.q ^ T.digits ≤ o.position + 1 → c.advance_one-changed.result ≡ 0 =
+          λ h. c.advance_one-changed.ensures.last (omega (arith, h, c.positions.ensures)) in (
+            step_answers P T over shows.agree ordering o.position c.advance_one-changed.result o.coordinates
+                after low moved last present scrambling (length c.args.out.now) c.write_point.new.out fits
+                c.write_point.ensures.size
+                (λ j h. subst₂ (λ q M. Writes P.scrambler q M o.coordinates j (get_or c.write_point.new.out j 0)) c.q.ensures c.digits.ensures
+                (c.write_point.ensures.numerators j h)),
             record {
               agree = shows.agree;
-              present = λ h. moved_on P T over shows.agree ordering o.position c.advance-one-changed.result o.coordinates
+              present = λ h. moved_on P T over shows.agree ordering o.position c.advance_one-changed.result o.coordinates
                   after low moved last present (omega (arith, h, c.positions.ensures));
             },
           );

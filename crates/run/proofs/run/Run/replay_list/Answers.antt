@@ -25,17 +25,17 @@ pub returns : goal.returns
 returns g c =
     let x = c.args.self.now in
     let y = c.start.new.self in
-    let z = c.make-all.new.self in
+    let z = c.make_all.new.self in
     let P = parts (g.F.Field.means x.field) (g.O.Order.means x.order) (g.S.Scrambler.means x.scrambler) in
     let same = c.start.ensures.same in
-    let told = c.in-ok-start.ensures.answer in
-    let h = log_of c.args.calls.now c.make-all.new.log in
+    let told = c.in_ok-start.ensures.answer in
+    let h = log_of c.args.calls.now c.make_all.new.log in
     let parts_same : parts (g.F.Field.means y.field) (g.O.Order.means y.order) (g.S.Scrambler.means y.scrambler) ≡ P =
     λ k. parts (g.F.Field.means (same.0 k)) (g.O.Order.means (same.1 k)) (g.S.Scrambler.means (same.2 k)) in
     let made : Consistent P y.table y.cursor → History P (view y.table y.cursor) h (view z.table z.cursor) × Consistent P z.table z.cursor =
     subst (λ P. Consistent P y.table y.cursor → History P (view y.table y.cursor) h (view z.table z.cursor) × Consistent P z.table z.cursor)
-    parts_same c.make-all.ensures.history in
-    let kept = c.make-all.ensures.same in
+    parts_same c.make_all.ensures.history in
+    let kept = c.make_all.ensures.same in
     record {
       answer = (
         ((λ other. other c.if-log-calls.false), told.0),

@@ -26,9 +26,9 @@ pub returns : goal.returns
 returns g c =
     let x = c.args.self.now in
     let P = parts (g.F.Field.means x.field) (g.O.Order.means x.order) (g.S.Scrambler.means x.scrambler) in
-    let built = c.in-ok-table.ensures in
+    let built = c.in_ok-table.ensures in
     record {
-      answer = start_gives P c.args.list.now c.args.digits (model c.in-ok-table.table) c.open.result
+      answer = start_gives P c.args.list.now c.args.digits (model c.in_ok-table.table) c.open.result
           c.open.new.self.table c.open.new.self.cursor built.0 built.1 c.open.ensures.answer;
       same = c.open.ensures.same;
       refused = c.open.ensures.refused;

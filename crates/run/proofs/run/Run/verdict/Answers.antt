@@ -15,4 +15,4 @@ pub returns : goal.returns
 returns g c =
     let x = c.args.self.now in
     let P = parts (g.F.Field.means x.field) (g.O.Order.means x.order) (g.S.Scrambler.means x.scrambler) in
-    verdict_answers P x.table c.in-Some.table x.cursor c.args.m c.first-passing.result c.in-Some.is c.first-passing.ensures
+    verdict_answers P x.table c.in-Some.table x.cursor c.args.m c.first_passing.result c.in-Some.is c.first_passing.ensures

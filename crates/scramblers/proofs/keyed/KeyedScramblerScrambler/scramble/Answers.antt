@@ -13,8 +13,8 @@ hash_after_push h (b ∷ read) a = hash_after_push (hash_next h b) read a
 hash_more : (h n : ℕ) (u : List ℕ) → n < length u → hash_next (hash_after h (take n u)) (get_or u n 0) ≡ hash_after h (take (n + 1) u)
 hash_more h n u l = sym (ap (hash_after h) (take_more u n 0 l) ∙ hash_after_push h (take n u) (get_or u n 0))
 
-pub overflow-add-word : goal.overflow-add-word
-overflow-add-word c = omega (arith, c.type-inv.word c.loop-place.place)
+pub overflow_add-word : goal.overflow_add-word
+overflow_add-word c = omega (arith, c.type-inv.word c.loop-place.place)
 
 pub loop-place-preserved : goal.loop-place-preserved
 loop-place-preserved c =
@@ -24,8 +24,8 @@ loop-place-preserved c =
     let start : ℕ = (c.args.self.now.key + c.args.coordinate) % 2 ^ 32 in
     let hash = c.loop-place.invariant.1 in
     let so_far = c.loop-place.invariant.2 in (
-      c.hash-next-hash.type-inv,
-      c.hash-next-hash.ensures ∙ ap₂ hash_next hash (so_far.left n (omega arith)) ∙ hash_more start n u (omega arith),
+      c.hash_next-hash.type-inv,
+      c.hash_next-hash.ensures ∙ ap₂ hash_next hash (so_far.left n (omega arith)) ∙ hash_more start n u (omega arith),
       scrambled_more (keyed_rule c.args.self.now.shape.q c.args.self.now.key c.args.coordinate) n u word _ (omega arith)
           (cc) so_far,
     )

@@ -11,9 +11,9 @@ returns-in-Some g c =
     let M = c.args.digits in
     let s = c.args.coordinates in
     let bytes = c.args.bytes.now in
-    let shape = subst (λ n. HasShape n M s c.in-ok-shape.shape) c.q-q.ensures c.in-ok-shape.ensures.1 in
+    let shape = subst (λ n. HasShape n M s c.in_ok-shape.shape) c.q-q.ensures c.in_ok-shape.ensures.1 in
     inr (
-      λ h. h (limits_of_shape q M s c.in-ok-shape.shape shape),
+      λ h. h (limits_of_shape q M s c.in_ok-shape.shape shape),
       inr (
         λ h. h (search rules),
         places_refused q M bytes c.in-Some.place
@@ -26,7 +26,7 @@ kept-matrices-requires g c =
     omega (
       arith,
       matrices_fit c.q-q.result c.args.digits c.args.coordinates
-          (limits_of_shape c.q-q.result c.args.digits c.args.coordinates c.in-ok-shape.shape c.in-ok-shape.ensures.1),
+          (limits_of_shape c.q-q.result c.args.digits c.args.coordinates c.in_ok-shape.shape c.in_ok-shape.ensures.1),
     )
 
 pub returns : goal.returns
@@ -35,9 +35,9 @@ returns g c =
     let M = c.args.digits in
     let s = c.args.coordinates in
     let bytes = c.args.bytes.now in
-    let shape = subst (λ n. HasShape n M s c.in-ok-shape.shape) c.q-q.ensures c.in-ok-shape.ensures.1 in (
+    let shape = subst (λ n. HasShape n M s c.in_ok-shape.shape) c.q-q.ensures c.in_ok-shape.ensures.1 in (
       (
-        λ h. h (limits_of_shape q M s c.in-ok-shape.shape shape),
+        λ h. h (limits_of_shape q M s c.in_ok-shape.shape shape),
         (
           λ h. h (search rules),
           places_clean q M bytes (subst (λ n. AllPlaced n M bytes) c.q-q.ensures (search rules)),

@@ -3,4 +3,4 @@ use Rattle.scramblers.proofs.linear.matrix.first_misplaced.Goals as goal
 
 pub loop-place-preserved : goal.loop-place-preserved
 loop-place-preserved c =
-    below_more _ _ c.loop-place.invariant (sym c.is-misplaced.ensures ∙ c.if-is-misplaced.false)
+    below_more _ _ c.loop-place.invariant (sym c.is_misplaced.ensures ∙ c.if-is_misplaced.false)

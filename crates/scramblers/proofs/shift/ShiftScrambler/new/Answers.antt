@@ -19,7 +19,7 @@ digits_after_set q xs i x within small all k =
 pub returns-in-Some : goal.returns-in-Some
 returns-in-Some c =
     inr (
-      c.in-ok-shape.ensures.0.0,
+      c.in_ok-shape.ensures.0.0,
       inr (
         λ h. h c.if-key-coordinates.false,
         digits_refused c.args.q 6 c.args.key.now c.in-Some.place c.in-Some.ensures,
@@ -30,15 +30,15 @@ pub loop-place-init : goal.loop-place-init
 loop-place-init c = (
   refl,
   λ k l. absurd (omega arith),
-  λ k. omega (arith, zeros_are_zero 256 k, c.in-ok-shape.ensures.1.q_is),
+  λ k. omega (arith, zeros_are_zero 256 k, c.in_ok-shape.ensures.1.q_is),
 )
 
 pub bounds-kept-place : goal.bounds-kept-place
 bounds-kept-place c =
     omega (
       arith,
-      at_most_256_as_made c.args.q c.args.digits c.args.coordinates c.in-ok-shape.shape
-          c.in-ok-shape.ensures.1,
+      at_most_256_as_made c.args.q c.args.digits c.args.coordinates c.in_ok-shape.shape
+          c.in_ok-shape.ensures.1,
     )
 
 pub loop-place-preserved : goal.loop-place-preserved
@@ -57,8 +57,8 @@ loop-place-preserved c =
 pub returns : goal.returns
 returns c = (
   (
-    c.in-ok-shape.ensures.0.0,
+    c.in_ok-shape.ensures.0.0,
     (λ h. h c.if-key-coordinates.false, digits_clean c.args.q 6 c.args.key.now c.in-default.ensures),
   ),
-  record { numbers = c.in-ok-shape.ensures.1; key_is = λ i l. c.loop-place.invariant.1 i (omega arith) },
+  record { numbers = c.in_ok-shape.ensures.1; key_is = λ i l. c.loop-place.invariant.1 i (omega arith) },
 )

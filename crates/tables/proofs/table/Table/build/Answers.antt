@@ -4,8 +4,8 @@ use Rattle.base.specs.Tables.{Inside}
 use Rattle.tables.proofs.Spreading.{spread_entry, spread_small, spread_spare}
 use Rattle.tables.proofs.table.Table.build.Goals as goal
 
-pub invariant-of-result : goal.invariant-of-result
-invariant-of-result g c =
+pub invariant_of-result : goal.invariant_of-result
+invariant_of-result g c =
     let t = g.R.DigitRule.means c.args.rule.now in
     let sizes = c.requires.sizes in
     let limits = c.requires.limits in

@@ -7,10 +7,10 @@ pub loop-index-preserved : goal.loop-index-preserved
 loop-index-preserved g c =
     let t = g.R.DigitRule.means c.args.rule.now in
     let i = c.loop-index.index in
-    let v = c.match-place-at.entries in
+    let v = c.match-place_at.entries in
     let sizes = c.requires.sizes in
     let is : v ≡ spread_at t i =
-    elim c.match-place-at.branch [
+    elim c.match-place_at.branch [
       | in-Some w ↦
           let at = w.in-Some.ensures in
           value_used t i w.in-Some.at.coordinate w.in-Some.at.row w.in-Some.at.column v
@@ -18,7 +18,7 @@ loop-index-preserved g c =
       | in-None w ↦ value_spare t i v (rw (sizes.0, sizes.1) w.in-None.ensures) w.entries-is
     ] in
     let small : v < t.q =
-    elim c.match-place-at.branch [
+    elim c.match-place_at.branch [
       | in-Some w ↦ omega (arith, w.digit.ensures.small)
       | in-None w ↦ omega arith
     ] in

@@ -11,8 +11,8 @@ loop-row-init g c =
     let word = word_from_test x.shape.q x.shape.digits x.shape.coordinates c.args.coordinate c.args.word.now c.if-not-scrambles.ensures in
     scrambled_from_end (g.F.Field.means x.field) x.shape.digits x.matrices c.args.coordinate c.args.word.now word.1.0
 
-pub row-sum-digit-requires : goal.row-sum-digit-requires
-row-sum-digit-requires g c =
+pub row_sum-digit-requires : goal.row_sum-digit-requires
+row_sum-digit-requires g c =
     let x = c.args.self.now in
     let row = c.loop-row.row - 1 in
     let word = word_from_test x.shape.q x.shape.digits x.shape.coordinates c.args.coordinate c.args.word.now c.if-not-scrambles.ensures in
@@ -25,8 +25,8 @@ pub loop-row-preserved : goal.loop-row-preserved
 loop-row-preserved g c =
     let x = c.args.self.now in
     scrambled_row (g.F.Field.means x.field) x.shape.digits x.matrices c.args.coordinate c.args.word.now
-    c.loop-row.row (c.loop-row.row - 1) c.loop-row.word c.row-sum-digit.result (omega arith) (omega arith)
-    c.row-sum-digit.ensures c.loop-row.invariant
+    c.loop-row.row (c.loop-row.row - 1) c.loop-row.word c.row_sum-digit.result (omega arith) (omega arith)
+    c.row_sum-digit.ensures c.loop-row.invariant
 
 pub returns : goal.returns
 returns g c =

@@ -18,8 +18,8 @@ bounds-self-first c =
       mul-add-lt c.args.coordinate shape.digits c.loop-place.place shape.coordinates told.0 (omega arith),
     )
 
-pub overflow-add-word-in-loop-place : goal.overflow-add-word-in-loop-place
-overflow-add-word-in-loop-place c =
+pub overflow_add-word-in-loop-place : goal.overflow_add-word-in-loop-place
+overflow_add-word-in-loop-place c =
     let shape = c.args.self.now.shape in
     let n = c.loop-place.place in
     let told = word_from_test shape.q shape.digits shape.coordinates c.args.coordinate c.args.word.now
