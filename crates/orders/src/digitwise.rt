@@ -19,8 +19,8 @@ pub(crate) trait DigitStep {
 
 // The index of a position by a rule; a position of q^digits or more comes back as it came.
 pub(crate) fn index_by<S: DigitStep>(size: &Size, rule: &S, position: u64) -> u64
-    requires { base rule.now ≡ size.now.q }
-    ensures { result ≡ by_digits size.now.q size.now.digits (step rule.now) position }
+    requires { S.base rule.now ≡ size.now.q }
+    ensures { result ≡ by_digits size.now.q size.now.digits (S.step rule.now) position }
 {
     if position >= size.positions {
         return position;
