@@ -9,7 +9,7 @@ use Rattle.std.proofs.lemmas.Nat.{div_below, mul-add-lt}
 use Rattle.std.proofs.lemmas.List.FromFn.{map-range_with_len_more, length-map-range_with_len}
 use Rattle.std.proofs.lemmas.List.{drop_at, drop-drop, drop_more, get_or-drop, get_or-set_other, get_or-set_same, get_or-take, length-append, length-drop, length-take, take_at, take_more}
 use Rattle.std.proofs.lemmas.Bool.{cases_eq, cond_both, cond-false, cond-true, eq-eqb, ne_eqb}
-use Rattle.std.specs.Slice.Iter.{chunks_exact_rest, chunks_exact_size}
+use Rattle.std.specs.Slice.Iter.{chunks_exact_remainder, chunks_exact_rest, chunks_exact_size}
 use Rattle.std.specs.declared.slice.ChunksExact.{ChunksExact}
 use Rattle.base.specs.Digits.{AllDigits}
 use Rattle.base.specs.Nets.{count, total}
@@ -155,6 +155,7 @@ abbrev pub Steps : ChunksExact ℕ → List ℕ → ChunksExact ℕ → Type 0
 Steps t point u =
     (chunks_exact_size u ≡ chunks_exact_size t)
     × ((chunks_exact_rest t ≡ point ++ chunks_exact_rest u) × (length point ≡ chunks_exact_size t))
+    × (chunks_exact_remainder u ≡ chunks_exact_remainder t)
 
 pub all_left : (s n : ℕ) (points : List ℕ) (t : ChunksExact ℕ) → chunks_exact_size t ≡ s → chunks_exact_rest t ≡ points → Left s n 0 points t
 all_left s n points t size rest =

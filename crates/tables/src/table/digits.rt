@@ -48,10 +48,10 @@ fn place_at(index: usize, digits: u8, coordinates: u8) -> Option<Place>
 
 // The digits that a rule gives, each at its place.
 fn spread<R: DigitRule>(digits: u8, coordinates: u8, rule: &R) -> [u8; PLACES]
-    requires works { (ready rule.now) × (0 < (means rule.now).q) }
-    requires sizes { ((means rule.now).digits ≡ digits) × ((means rule.now).coordinates ≡ coordinates) }
+    requires works { (R.ready rule.now) × (0 < (R.means rule.now).q) }
+    requires sizes { ((R.means rule.now).digits ≡ digits) × ((R.means rule.now).coordinates ≡ coordinates) }
     ensures size { length result ≡ 8192 }
-    ensures places { Spread (means rule.now) 8192 result }
+    ensures places { Spread (R.means rule.now) 8192 result }
 {
     let mut entries = [0; PLACES];
     for index in 0..PLACES {
@@ -67,9 +67,9 @@ impl Table {
     // The table that a rule gives.
     pub(crate) fn build<R: DigitRule>(q: u8, digits: u8, coordinates: u8, rule: &R) -> Table
         requires limits { Limits q digits coordinates }
-        requires works { ready rule.now }
-        requires sizes { ((means rule.now).q ≡ q) × ((means rule.now).digits ≡ digits) × ((means rule.now).coordinates ≡ coordinates) }
-        ensures { SameTable (model result) (means rule.now) }
+        requires works { R.ready rule.now }
+        requires sizes { ((R.means rule.now).q ≡ q) × ((R.means rule.now).digits ≡ digits) × ((R.means rule.now).coordinates ≡ coordinates) }
+        ensures { SameTable (model result) (R.means rule.now) }
     {
         let Some(positions) = positions(q, digits) else {
             return unreachable();

@@ -54,7 +54,7 @@ least-requires c =
         subst (λ s. length points ≡ c.in-Some-block_size.n * s) (sym made.3) c.if-points-n.false,
         cleared_length c.in-Some-block_size.n c.args.counters.now c.clear_first.new.counters c.if-counters-n.false c.clear_first.ensures,
       );
-      small = subst (λ n. AllDigits n points) power c.in-default-first_bad_numerator.ensures;
+      small = subst (λ n. AllDigits n points) power c.in_default-first_bad_numerator.ensures;
       zero = cleared_zero c.in-Some-block_size.n c.args.counters.now c.clear_first.new.counters c.clear_first.ensures;
     }
 
@@ -69,7 +69,7 @@ returns c =
     subst₂ (λ q M. InReach q M c.args.m) made.1 made.2 block.0 in
     let n_is : c.in-Some-block_size.n ≡ c.args.q ^ c.args.m = block.1 ∙ ap (λ x. x ^ c.args.m) made.1 in
     let sizes = subst (λ n. (length points ≡ n * c.args.coordinates) × (n ≤ length c.args.counters.now)) n_is (c.if-points-n.false, c.if-counters-n.false) in
-    let digits = subst (λ n. AllDigits n points) power c.in-default-first_bad_numerator.ensures in
+    let digits = subst (λ n. AllDigits n points) power c.in_default-first_bad_numerator.ensures in
     let cleared = subst₂ (λ n after. Cleared n c.args.counters.now after) n_is (sym c.least.ensures.same) c.clear_first.ensures in
     let least = subst (λ n. Least (λ t. Net c.args.q c.args.digits c.args.coordinates t c.args.m (points_of c.args.coordinates n points)) c.least.result) n_is
     (subst₃ (λ q M s. Least (λ t. Net q M s t c.args.m (points_of s c.in-Some-block_size.n points)) c.least.result) made.1 made.2 made.3

@@ -27,8 +27,8 @@ overflow_mul-cell c =
 pub overflow_sub-cell : goal.overflow_sub-cell
 overflow_sub-cell c = omega (arith, c.requires.1.0, count_within_total c.args.counts.now c.loop-j.j)
 
-pub nonzero-div-cell : goal.nonzero-div-cell
-nonzero-div-cell c =
+pub nonzero_div-cell : goal.nonzero_div-cell
+nonzero_div-cell c =
     let g = c.args.grid.now in
     divisor_is_some g.q g.digits g.powers (get_or c.args.counts.now c.loop-j.j 0) (grid_powers g)
 

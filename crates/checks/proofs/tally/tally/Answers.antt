@@ -10,7 +10,7 @@ loop-point-init c =
     let told = c.chunks_exact-point-items.ensures in (
       c.requires.zero,
       λ k h. refl,
-      subst (Left g.coordinates c.args.n 0 c.args.points.now) (sym c.into-iter-point-iterator.ensures.into-iter-gives)
+      subst (Left g.coordinates c.args.n 0 c.args.points.now) (sym c.into_iter-point-iterator.ensures.into_iter_gives)
           (all_left g.coordinates c.args.n c.args.points.now c.chunks_exact-point-items.result told.size told.rest),
     )
 

@@ -4,7 +4,7 @@ use Rattle.tables.specs.Table.{model}
 use Rattle.run.specs.Present.{Changed, shown}
 use Rattle.run.proofs.Changes.{changed_more, changed_none}
 use Rattle.run.proofs.advance.change_all.Goals as goal
-use Rattle.run.proofs.advance.change_all.Goals.{in-Some, in-default}
+use Rattle.run.proofs.advance.change_all.Goals.{in-Some, in_default}
 
 pub loop-j-init : goal.loop-j-init
 loop-j-init g c =
@@ -28,8 +28,8 @@ loop-j-preserved g c =
                 (λ k h. w.change.ensures k h ∙ ap (λ x. F.sum (shown before j k) (F.product x c.args.by)) (told.3 k h))
                 (c.loop-j.invariant.1 inside)),
           )
-      | in-default w ↦ (
+      | in_default w ↦ (
         ap length w.coordinates-is ∙ c.loop-j.invariant.0,
-        λ inside. absurd (w.in-default.ensures (omega (arith, c.loop-j-test.true, c.coordinates-j-end.ensures), inside)),
+        λ inside. absurd (w.in_default.ensures (omega (arith, c.loop-j-test.true, c.coordinates-j-end.ensures), inside)),
       )
     ]

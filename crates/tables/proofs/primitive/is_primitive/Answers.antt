@@ -11,27 +11,27 @@ loop-e-init c = (one_leaves_one c.args.degree c.args.polynomial c.requires.0, λ
 
 pub returns-then-power-eq1 : goal.returns-then-power-eq1
 returns-then-power-eq1 c =
-    back_early_decides c.args.degree c.args.polynomial c.loop-e.-e c.times_x-power.result
-    c.loop-e.auto.-e
+    back_early_decides c.args.degree c.args.polynomial c.loop-e._e c.times_x-power.result
+    c.loop-e.auto._e
     (omega (arith, pow_mono {i = c.args.degree} {j = 8} c.requires.1.0))
     c.if-power-eq1.true
-    (at_exponent c.loop-e.-e (omega arith) (c.times_x-power.ensures.next (c.loop-e.-e - 1) c.loop-e.invariant.0))
+    (at_exponent c.loop-e._e (omega arith) (c.times_x-power.ensures.next (c.loop-e._e - 1) c.loop-e.invariant.0))
 
 pub loop-e-preserved : goal.loop-e-preserved
 loop-e-preserved c =
-    let x = c.times_x-power.ensures.next (c.loop-e.-e - 1) c.loop-e.invariant.0 in (
-      at_exponent (c.loop-e.-e + 1 - 1) (omega arith) x,
-      none_below_next c.args.degree c.args.polynomial c.loop-e.-e c.times_x-power.result
+    let x = c.times_x-power.ensures.next (c.loop-e._e - 1) c.loop-e.invariant.0 in (
+      at_exponent (c.loop-e._e + 1 - 1) (omega arith) x,
+      none_below_next c.args.degree c.args.polynomial c.loop-e._e c.times_x-power.result
           c.requires.1.1
-          (at_exponent c.loop-e.-e (omega arith) x)
+          (at_exponent c.loop-e._e (omega arith) x)
           c.if-power-eq1.false
           c.loop-e.invariant.1,
     )
 
 pub returns : goal.returns
 returns c =
-    last_decides c.args.degree c.args.polynomial c.loop-e.-e c.times_x.result
+    last_decides c.args.degree c.args.polynomial c.loop-e._e c.times_x.result
     c.requires.1.1
     (omega (arith, pow_mono {i = 1} {j = c.args.degree} c.requires.0, pow_mono {i = c.args.degree} {j = 8} c.requires.1.0))
-    (at_exponent c.loop-e.-e (omega arith) (c.times_x.ensures.next (c.loop-e.-e - 1) c.loop-e.invariant.0))
+    (at_exponent c.loop-e._e (omega arith) (c.times_x.ensures.next (c.loop-e._e - 1) c.loop-e.invariant.0))
     c.loop-e.invariant.1

@@ -5,4 +5,4 @@ use Rattle.tables.proofs.primitive.is_primitive.Given as goal
 
 abbrev pub invariant-loop-e : goal.invariant-loop-e
 invariant-loop-e l =
-    Leaves l.degree l.polynomial (l.-e - 1) l.power × NoneBelow l.degree l.polynomial l.-e
+    Leaves l.degree l.polynomial (l._e - 1) l.power × NoneBelow l.degree l.polynomial l._e

@@ -8,11 +8,11 @@ loop-own-init g c = (
   reduced_none (g.F.Field.means c.args.field.now) c.args.count c.args.columns c.args.rows c.requires.1,
 )
 
-pub returns-in-default : goal.returns-in-default
-returns-in-default g c =
+pub returns-in_default : goal.returns-in_default
+returns-in_default g c =
     let x = c.args.field.now in
     zero_row_settles (g.F.Field.means x) (g.met.F.Field.keeps x) c.args.count c.args.columns c.loop-own.own
-    c.args.rows c.loop-own.rows c.loop-own.invariant.1 (omega arith) c.in-default.ensures
+    c.args.rows c.loop-own.rows c.loop-own.invariant.1 (omega arith) c.in_default.ensures
 
 pub loop-own-preserved : goal.loop-own-preserved
 loop-own-preserved g c =

@@ -16,4 +16,4 @@ loop-column-preserved g c =
     let laws = g.met.F.Field.keeps c.args.field.now in
     below_more (λ k. get_or c.args.row.now k 0 ≡ 0) c.loop-column.column c.loop-column.invariant
     (no_inverse_of_zero_alone F laws (get_or c.args.row.now c.loop-column.column 0)
-    (c.requires.1 c.loop-column.column c.loop-column-test.true) c.in-default.ensures)
+    (c.requires.1 c.loop-column.column c.loop-column-test.true) c.in_default.ensures)

@@ -2,7 +2,7 @@ use Rattle.std.proofs.Common.{◌≡◌, ℕ, ◌+◌, ◌<◌, List, length, ge
 use Rattle.std.proofs.lemmas.List.{get_or-set_other, get_or-set_same, length-set}
 use Rattle.tables.specs.Table.{model}
 use Rattle.verdict.proofs.rows.table_row.Goals as goal
-use Rattle.verdict.proofs.rows.table_row.Goals.{in-Some, in-default}
+use Rattle.verdict.proofs.rows.table_row.Goals.{in-Some, in_default}
 
 -- one digit more
 digits_more : (digits : List ℕ) (l digit : ℕ) (row : ℕ → ℕ) → l < length digits → digit ≡ row l
@@ -24,8 +24,8 @@ loop-column-preserved c =
             (digits_more c.loop-column.digits l w.in-Some.digit (T.entry c.args.coordinate c.args.row) (omega arith)
             w.in-Some.ensures.1 before.1),
       )
-      | in-default w ↦
-          absurd (w.in-default.ensures
+      | in_default w ↦
+          absurd (w.in_default.ensures
           (record {
             coordinate = c.requires.0;
             row_least = c.requires.1;

@@ -9,13 +9,11 @@ powers_of-powers-requires c =
 
 pub invariant_of-result : goal.invariant_of-result
 invariant_of-result c =
-    let limits = c.if-not-keep_limits.ensures.0 refl in (
-      limits.0,
-      (
-        limits.1,
-        (
-          at_most_32_digits c.args.q c.args.digits limits.0.0 limits.1.1,
-          (limits.2, (c.powers_of-powers.ensures, tt)),
-        ),
-      ),
-    )
+    let limits = c.if-not-keep_limits.ensures.0 refl in
+    record {
+      base = limits.0;
+      width = limits.1;
+      narrow = at_most_32_digits c.args.q c.args.digits limits.0.0 limits.1.1;
+      dimension = limits.2;
+      powers_are = c.powers_of-powers.ensures;
+    }

@@ -6,11 +6,11 @@ use Rattle.run.specs.declared.replay.Call.TheVariants.{At}
 use Rattle.run.proofs.Standing.{empty_refuses}
 use Rattle.run.proofs.run.Run.at.Goals as goal
 
-pub returns-in-default : goal.returns-in-default
-returns-in-default g c =
+pub returns-in_default : goal.returns-in_default
+returns-in_default g c =
     let x = c.args.self.now in
     let call = At c.args.position (length c.args.out.now) in
-    let why = empty_refuses x.table x.cursor call c.of.result c.in-default.is c.of.ensures in
+    let why = empty_refuses x.table x.cursor call c.of.result c.in_default.is c.of.ensures in
     record {
       tests = why;
       answer = λ consistent. call_refused (view x.table x.cursor) call (stated c.of.result) why;

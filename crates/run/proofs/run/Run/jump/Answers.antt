@@ -7,11 +7,11 @@ use Rattle.run.specs.declared.replay.Call.TheVariants.{Jump}
 use Rattle.run.proofs.Standing.{cursor_answers, empty_refuses}
 use Rattle.run.proofs.run.Run.jump.Goals as goal
 
-pub returns-in-default : goal.returns-in-default
-returns-in-default g c =
+pub returns-in_default : goal.returns-in_default
+returns-in_default g c =
     let x = c.args.self.now in
     let call = Jump c.args.position in
-    let why = empty_refuses x.table x.cursor call c.of.result c.in-default.is c.of.ensures in
+    let why = empty_refuses x.table x.cursor call c.of.result c.in_default.is c.of.ensures in
     record {
       tests = why;
       answer = λ consistent. (call_refused (view x.table x.cursor) call (stated c.of.result) why, consistent);

@@ -10,10 +10,10 @@ use Rattle.run.proofs.run.Run.replay_list.Goals as goal
 pub returns-then-log-calls : goal.returns-then-log-calls
 returns-then-log-calls g c = record { answer = inl (c.if-log-calls.true, c.of.ensures); same = (refl, refl, refl); refused = λ _. (refl, refl) }
 
-pub returns-in-err-start : goal.returns-in-err-start
-returns-in-err-start g c =
-    let p = err_from_is_err_and c.from-residual.result c.from-residual.ensures.1 in
-    let told = c.in-err-start.ensures in
+pub returns-in_err-start : goal.returns-in_err-start
+returns-in_err-start g c =
+    let p = err_from_is_err_and c.from_residual.result c.from_residual.ensures.1 in
+    let told = c.in_err-start.ensures in
     rw (p.1, p.2)
     (record {
       answer = inr ((λ other. other c.if-log-calls.false), told.answer);

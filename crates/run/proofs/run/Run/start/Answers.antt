@@ -8,16 +8,16 @@ use Rattle.run.specs.Runs.{open_tests, parts}
 use Rattle.run.proofs.Standing.{start_gives}
 use Rattle.run.proofs.run.Run.start.Goals as goal
 
-pub returns-in-err-table : goal.returns-in-err-table
-returns-in-err-table g c =
+pub returns-in_err-table : goal.returns-in_err-table
+returns-in_err-table g c =
     let x = c.args.self.now in
     let P = parts (g.F.Field.means x.field) (g.O.Order.means x.order) (g.S.Scrambler.means x.scrambler) in
     let list = c.args.list.now in
-    let p = err_from_is_err_and c.from-residual.result c.from-residual.ensures.1 in
+    let p = err_from_is_err_and c.from_residual.result c.from_residual.ensures.1 in
     rw (p.1, p.2)
     (record {
-      answer = refused_left (sobol_tests list c.args.digits) (open_tests P (sobol_table list c.args.digits)) (stated c.in-err-table.field-0.0)
-          c.in-err-table.ensures;
+      answer = refused_left (sobol_tests list c.args.digits) (open_tests P (sobol_table list c.args.digits)) (stated c.in_err-table.field-0.0)
+          c.in_err-table.ensures;
       same = (refl, refl, refl);
       refused = λ _. refl;
     })

@@ -5,11 +5,11 @@ use Rattle.run.specs.declared.replay.Call.TheVariants.{Verdict}
 use Rattle.run.proofs.Standing.{empty_refuses, verdict_answers}
 use Rattle.run.proofs.run.Run.verdict.Goals as goal
 
-pub returns-in-default : goal.returns-in-default
-returns-in-default g c = λ consistent.
+pub returns-in_default : goal.returns-in_default
+returns-in_default g c = λ consistent.
     let x = c.args.self.now in
     call_refused (view x.table x.cursor) (Verdict c.args.m) (stated c.of.result)
-    (empty_refuses x.table x.cursor (Verdict c.args.m) c.of.result c.in-default.is c.of.ensures)
+    (empty_refuses x.table x.cursor (Verdict c.args.m) c.of.result c.in_default.is c.of.ensures)
 
 pub returns : goal.returns
 returns g c =

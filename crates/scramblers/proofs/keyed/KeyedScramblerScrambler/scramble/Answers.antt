@@ -14,7 +14,7 @@ hash_more : (h n : ℕ) (u : List ℕ) → n < length u → hash_next (hash_afte
 hash_more h n u l = sym (ap (hash_after h) (take_more u n 0 l) ∙ hash_after_push h (take n u) (get_or u n 0))
 
 pub overflow_add-word : goal.overflow_add-word
-overflow_add-word c = omega (arith, c.type-inv.word c.loop-place.place)
+overflow_add-word c = omega (arith, c.type_inv.word c.loop-place.place)
 
 pub loop-place-preserved : goal.loop-place-preserved
 loop-place-preserved c =
@@ -24,7 +24,7 @@ loop-place-preserved c =
     let start : ℕ = (c.args.self.now.key + c.args.coordinate) % 2 ^ 32 in
     let hash = c.loop-place.invariant.1 in
     let so_far = c.loop-place.invariant.2 in (
-      c.hash_next-hash.type-inv,
+      c.hash_next-hash.type_inv,
       c.hash_next-hash.ensures ∙ ap₂ hash_next hash (so_far.left n (omega arith)) ∙ hash_more start n u (omega arith),
       scrambled_more (keyed_rule c.args.self.now.shape.q c.args.self.now.key c.args.coordinate) n u word _ (omega arith)
           (cc) so_far,

@@ -51,14 +51,14 @@ loop-place-preserved c =
       length-set kept n digit ∙ inv.0,
       below_more (λ k. get_or (set kept n digit) k 0 ≡ get_or c.args.key.now k 0) n
           (λ k l. let other : k ≢ n = omega arith in rw get_or-set_other (inv.1 k l)) (rw get_or-set_same),
-      digits_after_set c.args.q kept n digit within (c.in-default.ensures n (omega arith)) inv.2,
+      digits_after_set c.args.q kept n digit within (c.in_default.ensures n (omega arith)) inv.2,
     )
 
 pub returns : goal.returns
 returns c = (
   (
     c.in_ok-shape.ensures.0.0,
-    (λ h. h c.if-key-coordinates.false, digits_clean c.args.q 6 c.args.key.now c.in-default.ensures),
+    (λ h. h c.if-key-coordinates.false, digits_clean c.args.q 6 c.args.key.now c.in_default.ensures),
   ),
   record { numbers = c.in_ok-shape.ensures.1; key_is = λ i l. c.loop-place.invariant.1 i (omega arith) },
 )

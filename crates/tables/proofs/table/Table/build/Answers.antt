@@ -11,19 +11,16 @@ invariant_of-result g c =
     let limits = c.requires.limits in
     let told = c.spread-entries.ensures in
     let small = spread_small t 8192 c.spread-entries.result told.size told.places (omega arith) in
-    let spare = spread_spare t 8192 c.spread-entries.result told.size told.places in (
-      c.in-Some.ensures.1,
-      (
-        limits.0,
-        (
-          limits.1,
-          (
-            at_most_32_digits c.args.q c.args.digits limits.0.0 limits.1.1,
-            (limits.2, (λ i. rw (← sizes.0) (small i), (λ i none. spare i (rw (sizes.1, sizes.2) none), tt))),
-          ),
-        ),
-      ),
-    )
+    let spare = spread_spare t 8192 c.spread-entries.result told.size told.places in
+    record {
+      all = c.in-Some.ensures.1;
+      base = limits.0;
+      width = limits.1;
+      narrow = at_most_32_digits c.args.q c.args.digits limits.0.0 limits.1.1;
+      dimension = limits.2;
+      small = λ i. rw (← sizes.0) (small i);
+      spare = λ i none. spare i (rw (sizes.1, sizes.2) none);
+    }
 
 pub returns : goal.returns
 returns g c =
