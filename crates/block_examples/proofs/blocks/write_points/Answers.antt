@@ -19,8 +19,8 @@ within g c =
       point_within c.coordinates-coordinates.result c.loop-i.i c.args.count c.loop-i-test.true,
     )
 
-pub offset-bounds-out-place : goal.offset-bounds-out-place
-offset-bounds-out-place g c = omega (arith, within g c)
+pub offset_bounds-out-place : goal.offset_bounds-out-place
+offset_bounds-out-place g c = omega (arith, within g c)
 
 pub slice-bounds-point-end : goal.slice-bounds-point-end
 slice-bounds-point-end g c = within g c

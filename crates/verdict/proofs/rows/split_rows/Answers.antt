@@ -16,8 +16,8 @@ room c =
 pub table_row-requires : goal.table_row-requires
 table_row-requires c = (omega arith, omega arith, omega (arith, room c), omega arith)
 
-pub offset-bounds-rows-next : goal.offset-bounds-rows-next
-offset-bounds-rows-next c = omega (arith, room (goal.at.offset-bounds-rows-next c).In-loop-row, c.args.table.now.narrow)
+pub offset_bounds-rows-next : goal.offset_bounds-rows-next
+offset_bounds-rows-next c = omega (arith, room (goal.at.offset_bounds-rows-next c).In-loop-row, c.args.table.now.narrow)
 
 pub bounds-rows-next : goal.bounds-rows-next
 bounds-rows-next c = omega (arith, room (goal.at.bounds-rows-next c).In-loop-row, c.args.table.now.narrow)
