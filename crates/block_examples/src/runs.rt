@@ -40,7 +40,7 @@ fn print_blocks(
     let verdict = run.verdict(m)?;
     print!(rt; "verdict {m}: {verdict}; counted")?;
     let mut counters = [0u32; 16];
-    for block in points.chunks(numerators) {
+    for block in points.chunks(numerators.max(1)) {
         let t = least_t(2, DIGITS, COORDINATES, m, block, &mut counters)?;
         print!(rt; " {t}")?;
     }

@@ -22,8 +22,8 @@ within g c =
 pub offset_bounds-out-place : goal.offset_bounds-out-place
 offset_bounds-out-place g c = omega (arith, within g c)
 
-pub slice-bounds-point-end : goal.slice-bounds-point-end
-slice-bounds-point-end g c = within g c
+pub slice_bounds-point-end : goal.slice_bounds-point-end
+slice_bounds-point-end g c = within g c
 
 pub loop-i-preserved : goal.loop-i-preserved
 loop-i-preserved g c =
