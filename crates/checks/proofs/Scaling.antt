@@ -1,12 +1,11 @@
 -- A setting stays between the limits of its travel, and grows with its numerator. Assumes nothing.
-use Rattle.std.proofs.Common.{◌≡◌, ℕ, zero, suc, ◌+◌, ◌-◌, ◌*◌, ◌/◌, ◌<◌, ◌≤◌, ◌≢◌, List, length, get_or, set, sym, refl, ap, ◌∙◌, subst, ⊎_elim, le_trans, mul-le-mul_right, mul_comm, mul-lt-mul_of_pos_right, le-div_iff_mul-le, div-mul-le_self, arith}
+use Rattle.std.proofs.Common.{ℕ, zero, suc, ◌+◌, ◌*◌, ◌/◌, ◌<◌, ◌≤◌, List, length, get_or, set, sym, subst, ⊎_elim, le_trans, mul-le-mul_right, mul_comm, mul-lt-mul_of_pos_right, le-div_iff_mul-le, div-mul-le_self, arith}
 use native.Mathlib.Nat.{div-zero}
 use Rattle.std.proofs.lemmas.Nat.{div_below}
-use Rattle.std.proofs.ByRecursion.{All-get_or}
 use Rattle.std.proofs.lemmas.List.{get_or_default, get_or-set_other, get_or-set_same}
 use Rattle.std.proofs.lemmas.Bool.{cases_eq}
 use Rattle.checks.specs.declared.travel.Travel.{Travel}
-use Rattle.checks.specs.Settings.{Grows, Scaled, Scales, setting}
+use Rattle.checks.specs.Settings.{Grows, Scaled, Scales}
 
 -- no travel
 abbrev pub still : Travel

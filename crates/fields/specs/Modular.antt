@@ -1,8 +1,8 @@
 -- The numbers modulo q keep the laws of a field, for every q above 1 but for inverses; those are found by a test over the
 -- six primes.
 -- Assumes nothing.
-use Rattle.std.specs.Prelude.{◌≡◌, ℕ, suc, ◌+◌, ◌-◌, ◌*◌, ◌/◌, ◌%◌, ◌<◌, ◌≤◌, Bool, true, false, ◌||◌, ◌⊎◌, Some, None, Option, ◌==◌, refl}
-use Rattle.std.proofs.Common.{sym, ◌∙◌, ap, ap₂, subst, ⊎_elim, add_assoc, add_comm, add-mul, mod-eq_of_lt, mod-lt, mul-add, mul_assoc, mul_comm, one-mul, zero-add, arith}
+use Rattle.std.specs.Prelude.{◌≡◌, ℕ, suc, ◌+◌, ◌-◌, ◌*◌, ◌/◌, ◌%◌, ◌<◌, ◌≤◌, Bool, true, false, Some, None, Option, ◌==◌, refl}
+use Rattle.std.proofs.Common.{sym, ◌∙◌, ap, subst, ⊎_elim, add_assoc, add_comm, add-mul, mod-eq_of_lt, mod-lt, mul-add, mul_assoc, mul_comm, one-mul, zero-add, arith}
 use Rattle.std.proofs.Math.Nat.{add-mod, add-mod-mod, add-mul-mod_self_left, mod-add-div, mod-add-mod, mod_self}
 use Rattle.std.proofs.lemmas.Bool.{eqb-true, or_cases}
 use Rattle.fields.specs.OnDigits.{DigitLaws}

@@ -1,5 +1,5 @@
 -- The fields of a prime number of elements. Assumes nothing.
-use Rattle.std.specs.Prelude.{◌≡◌, ℕ, zero, suc, ◌+◌, ◌-◌, ◌*◌, ◌%◌, Bool, true, false, ◌||◌, List, [], ◌∷◌, Some, None, Option, ◌==◌, ◌≢◌, nat_eq}
+use Rattle.std.specs.Prelude.{ℕ, zero, suc, ◌+◌, ◌-◌, ◌*◌, ◌%◌, Bool, true, false, ◌||◌, List, [], ◌∷◌, Some, None, Option, ◌==◌, ◌≢◌, nat_eq}
 use Rattle.base.specs.Faults.{refusal}
 use Rattle.base.specs.Fields.{FieldModel}
 use Rattle.base.specs.Tests.{Test, test}

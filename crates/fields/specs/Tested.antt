@@ -1,7 +1,7 @@
 -- The laws of a field by computation: one test over all digits, and the lemma that turns it into the laws.
 -- Assumes nothing.
-use Rattle.std.specs.Prelude.{◌≡◌, ℕ, zero, suc, ◌<◌, ◌≤◌, Bool, true, false, ◌&&◌, ◌||◌, Some, None, Option, ◌==◌, ◌≢◌, nat_eq, nat_lt, refl}
-use Rattle.std.proofs.Common.{sym, ◌∙◌, subst, ⊎_elim, arith}
+use Rattle.std.specs.Prelude.{◌≡◌, ℕ, zero, suc, ◌<◌, Bool, true, false, ◌&&◌, ◌||◌, Some, None, Option, ◌==◌, ◌≢◌, nat_eq, nat_lt, refl}
+use Rattle.std.proofs.Common.{sym, subst, ⊎_elim, arith}
 use Rattle.std.proofs.lemmas.Bool.{and_parts, cases_eq, eqb-true, ltb-true, false≢true, or_cases}
 use Rattle.fields.specs.OnDigits.{DigitLaws}
 

@@ -2,7 +2,7 @@
 -- over all places of one block of indexes. If the split's rows are independent, that is q^t for every cell; if they are dependent,
 -- some right sides have no solution, and their cell is empty. So the block is a net for t exactly if every split of m - t passes,
 -- and the least t is the first that passes. Assumes nothing.
-use Rattle.std.proofs.Common.{◌≡◌, ℕ, zero, suc, ◌+◌, ◌-◌, ◌*◌, ◌^◌, ◌<◌, ◌≤◌, Bool, true, false, cond, ◌⊎◌, List, [], ◌∷◌, map, length, sym, refl, ap, ◌∙◌, subst, ap₂, inl, inr, ⊎_elim, arith}
+use Rattle.std.proofs.Common.{◌≡◌, ℕ, zero, suc, ◌+◌, ◌-◌, ◌*◌, ◌^◌, ◌<◌, ◌≤◌, Bool, cond, ◌⊎◌, List, [], ◌∷◌, map, length, sym, refl, ap, ◌∙◌, subst, ap₂, ⊎_elim, arith}
 use mathlib.Core.Path.{subst₃}
 use native.Mathlib.Nat.{one-le-pow}
 use Rattle.std.proofs.lemmas.List.FromFn.{length-map-range_with_len}
@@ -10,9 +10,9 @@ use Rattle.std.proofs.lemmas.Bool.{cases_lt, cases_order}
 use Rattle.std.specs.List.{range_with_len}
 use Rattle.base.proofs.FieldAlgebra.{zero_digit}
 use Rattle.base.specs.Blocks.{BlockWithin, Fit, TableOver, block_points}
-use Rattle.base.specs.Fields.{FieldLaws, FieldModel}
+use Rattle.base.specs.Fields.{FieldModel}
 use Rattle.base.specs.Independence.{AllPass, FirstPassing, Passes, split_row}
-use Rattle.base.specs.Nets.{Cell, Even, Least, Net, Split, count, in_cell, total}
+use Rattle.base.specs.Nets.{Even, Least, Split, count, in_cell, total}
 use Rattle.base.specs.Orders.{OrderLaws, OrderModel}
 use Rattle.base.specs.Points.{numerator, point, word}
 use Rattle.base.specs.Scramblers.{ScramblerLaws, ScramblerModel}

@@ -1,6 +1,6 @@
 -- A row at the indexes of a block: its left side in the m low digits, plus a sum over the other columns that is the same in the
 -- whole block. Assumes nothing.
-use Rattle.std.proofs.Common.{◌≡◌, ℕ, ◌+◌, ◌-◌, ◌*◌, ◌/◌, ◌^◌, ◌<◌, ◌≤◌, sym, ap, ◌∙◌, ap₂, arith}
+use Rattle.std.proofs.Common.{◌≡◌, ℕ, ◌+◌, ◌-◌, ◌*◌, ◌^◌, ◌<◌, ◌≤◌, ap, ◌∙◌, ap₂, arith}
 use Rattle.base.proofs.FieldAlgebra.{sum_over_same, zero_digit}
 use Rattle.base.specs.Fields.{FieldLaws, FieldModel, sum_over}
 use Rattle.base.specs.Orders.{digit}

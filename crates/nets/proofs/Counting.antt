@@ -1,7 +1,7 @@
 -- Sums over the numbers below n, and pigeonhole: a one-to-one map of the numbers below n into themselves takes each value
 -- exactly once, so it leaves every sum over them as it is. Assumes nothing.
 use Rattle.std.proofs.Common.{◌≡◌, ℕ, zero, suc, ◌+◌, ◌*◌, ◌<◌, ◌≤◌, cond, eqb, sym, refl, ap, ◌∙◌, ap₂, ⊎_elim, add-zero, add-suc, suc-mul, add-mul, one-mul, mul-zero, zero-mul, mul-suc, add-one, arith}
-use Rattle.std.proofs.lemmas.Bool.{cases_eq, cond_both, cond-false, cond-true, eq-eqb, ne_eqb}
+use Rattle.std.proofs.lemmas.Bool.{cases_eq, cond-false, cond-true, eq-eqb, ne_eqb}
 
 -- the sum of f over the numbers below n
 abbrev pub sum_below : ℕ → (ℕ → ℕ) → ℕ

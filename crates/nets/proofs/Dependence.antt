@@ -1,10 +1,10 @@
 -- Dependent rows: where a combination with a coefficient other than 0 vanishes, the right side that is 1 there and 0 elsewhere
 -- has no solution. Whether there is such a combination is found by a search over all coefficients. Assumes nothing.
-use Rattle.std.proofs.Common.{◌≡◌, ℕ, zero, suc, ◌+◌, ◌-◌, ◌*◌, ◌/◌, ◌^◌, ◌<◌, ◌≤◌, Bool, true, false, cond, eqb, ◌⊎◌, sym, refl, ap, ◌∙◌, subst, ap₂, inl, inr, ⊎_elim, mod-lt, mul_comm, add_comm, pow-suc, arith}
+use Rattle.std.proofs.Common.{◌≡◌, ℕ, zero, suc, ◌+◌, ◌-◌, ◌*◌, ◌^◌, ◌<◌, Bool, true, cond, eqb, ◌⊎◌, sym, refl, ap, ◌∙◌, subst, ap₂, inl, inr, ⊎_elim, mul_comm, add_comm, pow-suc, arith}
 use native.Mathlib.Nat.{one-le-pow, pow-zero}
 use Rattle.std.proofs.lemmas.Nat.{mul-add-lt}
 use Rattle.std.proofs.lemmas.Bool.{cases_Bool, cases_eq, cond-false, cond-true, eq-eqb, eqb-true, ne_eqb}
-use Rattle.base.proofs.FieldAlgebra.{product_zero_left, product_zero_right, sum_over_digit, sum_over_same, sum_zero_right, zero_digit}
+use Rattle.base.proofs.FieldAlgebra.{product_zero_right, sum_over_same, sum_zero_right, zero_digit}
 use Rattle.base.specs.Fields.{FieldLaws, FieldModel, sum_over}
 use Rattle.base.specs.Orders.{digit, from_digits}
 use Rattle.base.specs.Independence.{Independent}

@@ -1,5 +1,5 @@
 -- Sums over a field: sums of sums, of multiples, in the other order, and from the first term on. Assumes nothing.
-use Rattle.std.proofs.Common.{◌≡◌, ℕ, zero, suc, ◌+◌, ◌<◌, sym, refl, ap, ◌∙◌, ap₂, add-zero, add-suc, arith}
+use Rattle.std.proofs.Common.{◌≡◌, ℕ, zero, suc, ◌+◌, ◌<◌, sym, refl, ap, ◌∙◌, add-zero, add-suc, arith}
 use Rattle.base.proofs.FieldAlgebra.{product_zero_right, sum_over_digit, sum_zero_right, zero_digit}
 use Rattle.base.specs.Fields.{FieldLaws, FieldModel, sum_over}
 

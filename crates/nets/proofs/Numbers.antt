@@ -1,5 +1,5 @@
 -- Words and numbers: the words of k digits, read as numbers in base q, are exactly the numbers below q^k. Assumes nothing.
-use Rattle.std.proofs.Common.{◌≡◌, ℕ, zero, suc, ◌+◌, ◌-◌, ◌*◌, ◌/◌, ◌%◌, ◌^◌, ◌<◌, ◌≤◌, List, [], ◌∷◌, ◌++◌, length, get_or, take, sym, refl, ap, ◌∙◌, subst, ap₂, mod-lt, mul_assoc, mul_comm, add_comm, pow-suc, div-add-mod', div-one, arith, pow-add}
+use Rattle.std.proofs.Common.{◌≡◌, ℕ, zero, suc, ◌+◌, ◌-◌, ◌*◌, ◌/◌, ◌%◌, ◌^◌, ◌<◌, ◌≤◌, List, [], ◌∷◌, take, sym, refl, ap, ◌∙◌, subst, ap₂, mod-lt, mul_assoc, mul_comm, add_comm, pow-suc, div-add-mod', div-one, arith, pow-add}
 use native.Mathlib.Nat.{add-mul-mod_self_right, div-div-eq-div-mul, div-eq_of_lt, mul-add-div_right, one-le-pow, pow-zero}
 use Rattle.std.proofs.lemmas.Nat.{div_below, div-mul-add, mod-mul-add, mul-add-lt}
 use Rattle.std.proofs.lemmas.List.{length-take-le}

@@ -1,6 +1,6 @@
 -- Orders on blocks: by the law at m the indexes of a block have one quotient by q^m, by the law at 0 their remainders are
 -- different; so they run over all remainders, each once. Assumes nothing.
-use Rattle.std.proofs.Common.{◌≡◌, ℕ, zero, suc, ◌+◌, ◌-◌, ◌*◌, ◌/◌, ◌%◌, ◌^◌, ◌<◌, ◌≤◌, sym, refl, ap, ◌∙◌, subst, ap₂, add-zero, mod-lt, suc-mul, div-add-mod', div-one, add-one, arith}
+use Rattle.std.proofs.Common.{◌≡◌, ℕ, ◌+◌, ◌-◌, ◌*◌, ◌/◌, ◌%◌, ◌^◌, ◌<◌, ◌≤◌, sym, ap, ◌∙◌, mod-lt, suc-mul, div-add-mod', div-one, add-one, arith}
 use native.Mathlib.Nat.{one-le-pow, pow-zero}
 use Rattle.std.proofs.lemmas.Nat.{div-mul-add}
 use Rattle.base.specs.Orders.{OrderLaws, OrderModel}

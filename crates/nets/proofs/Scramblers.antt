@@ -1,14 +1,13 @@
 -- Scramblers on leading digits: read as numbers below q^k, the first k digits of a result depend on the first k digits of
 -- the word alone, different ones on different ones; so every k digits are reached. Assumes nothing.
-use Rattle.std.proofs.Common.{◌≡◌, ℕ, zero, suc, ◌+◌, ◌-◌, ◌*◌, ◌^◌, ◌<◌, ◌≤◌, List, [], ◌∷◌, ◌++◌, length, get_or, take, replicate, sym, refl, ap, ◌∙◌, subst, ap₂, add-zero, arith}
-use native.Mathlib.Nat.{pow-zero}
-use Rattle.std.proofs.lemmas.List.{get_or-take, length-append, length-replicate, length-take-le, take_at}
+use Rattle.std.proofs.Common.{◌≡◌, ℕ, zero, suc, ◌+◌, ◌-◌, ◌^◌, ◌<◌, ◌≤◌, List, [], ◌∷◌, ◌++◌, take, replicate, sym, refl, ap, ◌∙◌, subst, ap₂, arith}
+use Rattle.std.proofs.lemmas.List.{get_or-take, length-append, length-take-le, take_at}
 use Rattle.base.specs.Digits.{AllDigits}
 use Rattle.base.specs.Points.{numerator}
 use Rattle.base.specs.Scramblers.{ScramblerLaws, ScramblerModel, Scrambles, Word}
 use Rattle.nets.specs.Leading.{Matched, ScramblersPermuteCells}
 use Rattle.nets.proofs.Counting.{Permutes, onto}
-use Rattle.nets.proofs.Numbers.{number_of_word_of, word_cons, word_head, word_number_below, word_of_number, word_of_number_of, word_tail, word_of}
+use Rattle.nets.proofs.Numbers.{number_of_word_of, word_cons, word_number_below, word_of_number, word_of_number_of, word_of}
 
 pub word_of_zeros : (q k : ℕ) → 1 ≤ q → Word q k (replicate k 0)
 word_of_zeros q zero some = (refl, λ i h. elim h [ ])

@@ -1,8 +1,7 @@
 -- The numbers of solutions, counted as the definition does: over the list of the numbers below q^m. Assumes nothing.
-use Rattle.std.proofs.Common.{◌≡◌, ℕ, zero, suc, ◌+◌, ◌^◌, Bool, cond, List, [], ◌∷◌, sym, refl, ap, ◌∙◌, ap₂, add-zero, zero-add, arith}
+use Rattle.std.proofs.Common.{◌≡◌, ℕ, zero, suc, ◌+◌, ◌^◌, Bool, cond, sym, refl, ap, ◌∙◌, ap₂, add-zero, zero-add, arith}
 use Rattle.std.proofs.lemmas.Bool.{cond_both, cond-false, cond-true}
 use Rattle.std.specs.List.{range_with_len}
-use Rattle.base.specs.Fields.{FieldLaws, FieldModel}
 use Rattle.base.specs.Nets.{count}
 use Rattle.base.specs.Orders.{digit}
 use Rattle.nets.specs.Rows.{SolutionsOfRows, solutions, solves}

@@ -1,8 +1,8 @@
 -- A search over the splits of a number: if each split has a property or not, then all have it, or one is found that does not.
 -- Assumes nothing.
-use Rattle.std.proofs.Common.{◌≡◌, ℕ, zero, suc, ◌+◌, ◌-◌, ◌<◌, ◌≤◌, ◌⊎◌, List, [], ◌∷◌, refl, subst, inl, inr, ⊎_elim, arith}
+use Rattle.std.proofs.Common.{◌≡◌, ℕ, zero, suc, ◌-◌, ◌<◌, ◌≤◌, ◌⊎◌, List, [], ◌∷◌, refl, subst, inl, inr, ⊎_elim, arith}
 use Rattle.std.proofs.lemmas.Bool.{cases_eq}
-use Rattle.base.specs.Nets.{Split, total}
+use Rattle.base.specs.Nets.{Split}
 
 -- below n, P holds everywhere or X is had
 all_below_or : (n : ℕ) (P : ℕ → Type 0) (X : Type 0) → ((i : ℕ) → i < n → P i ⊎ X) → ((i : ℕ) → i < n → P i) ⊎ X

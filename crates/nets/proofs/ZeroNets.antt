@@ -1,12 +1,11 @@
 -- Blocks with t = 0: where every split passes, every block of points is a net for t = 0, by the theorem of blocks. So it is for
 -- Faure tables and for Sobol' tables of one coordinate. Assumes nothing.
-use Rattle.std.proofs.Common.{◌≡◌, ℕ, suc, ◌-◌, ◌<◌, ◌≤◌, List, [], ◌∷◌, get_or, sym, refl, ◌∙◌, subst, arith}
-use Rattle.base.proofs.FieldAlgebra.{zero_digit}
+use Rattle.std.proofs.Common.{◌-◌, ◌<◌, [], ◌∷◌, get_or, sym, ◌∙◌, subst, arith}
 use Rattle.base.specs.Blocks.{TableOver}
-use Rattle.base.specs.Fields.{FieldLaws, FieldModel}
-use Rattle.base.specs.Tables.{Inside, SameTable, TableModel}
+use Rattle.base.specs.Fields.{FieldModel}
+use Rattle.base.specs.Tables.{TableModel}
 use Rattle.tables.specs.Directions.{direction_of}
-use Rattle.tables.specs.Faure.{faure_table, poly_power}
+use Rattle.tables.specs.Faure.{poly_power}
 use Rattle.tables.specs.Sobol.{record_of, sobol_digit, sobol_table}
 use Rattle.tables.proofs.Powers.{power_digits}
 use Rattle.nets.specs.Zero.{EveryBlockIsZeroNet, EverySplitPasses, FaureTablesHaveTZero, SingleSobolTablesHaveTZero}

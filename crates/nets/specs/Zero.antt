@@ -1,6 +1,6 @@
 -- Tables whose blocks are nets with t = 0, and how the digits of Sobol' tables follow from their polynomials.
 -- Assumes nothing.
-use Rattle.std.specs.Prelude.{◌≡◌, ℕ, suc, ◌+◌, ◌-◌, ◌/◌, ◌<◌, ◌≤◌, cond, List, length, nat_lt}
+use Rattle.std.specs.Prelude.{◌≡◌, ℕ, suc, ◌-◌, ◌/◌, ◌<◌, ◌≤◌, cond, List, length, nat_lt}
 use Rattle.base.specs.Blocks.{BlockWithin, Fit}
 use Rattle.base.specs.Fields.{FieldLaws, FieldModel, sum_over}
 use Rattle.base.specs.Independence.{AllPass}

@@ -1,16 +1,15 @@
 -- The calls of an open run answer by the relation, and leave the coordinates at the index of the position. Assumes nothing.
-use Rattle.std.proofs.Common.{◌≡◌, ℕ, ◌+◌, ◌^◌, ◌<◌, ◌≤◌, ltb, List, length, get_or, sym, refl, ap, ◌∙◌, subst, subst₂, ⊎_elim, arith}
+use Rattle.std.proofs.Common.{◌≡◌, ℕ, ◌+◌, ◌^◌, ◌<◌, ◌≤◌, ltb, List, length, get_or, sym, refl, ◌∙◌, subst, subst₂, ⊎_elim, arith}
 use Rattle.std.proofs.lemmas.Bool.{cases_lt, cond-false, cond-true, le-ltb, lt-ltb}
 use Rattle.base.specs.Blocks.{TableOver}
-use Rattle.base.specs.Fields.{FieldLaws}
 use Rattle.base.specs.Orders.{OrderLaws, digit}
 use Rattle.base.specs.Scramblers.{ScramblerLaws}
 use Rattle.base.specs.Tables.{TableModel}
 use Rattle.run.specs.Present.{Moved, Present, changed_digits}
-use Rattle.run.specs.Runs.{Agree, Answers, Parts, at_accepted, changes_after, opened, point_of, pointed, step_accepted, stepped}
+use Rattle.run.specs.Runs.{Agree, Answers, Parts, at_accepted, changes_after, opened, pointed, step_accepted, stepped}
 use Rattle.run.specs.Written.{Writes}
 use Rattle.run.specs.declared.coordinate.Coordinate.{Coordinate}
-use Rattle.run.specs.declared.replay.Call.TheVariants.{Step, Jump, At, Verdict}
+use Rattle.run.specs.declared.replay.Call.TheVariants.{Step, At}
 use Rattle.run.proofs.Points.{written_point}
 
 module _ (P : Parts) (T : TableModel) (over : TableOver P.field T) (agree : Agree P T) (ordering : OrderLaws P.order) where

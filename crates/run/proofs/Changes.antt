@@ -1,9 +1,9 @@
 -- A change of one index digit. Coordinate after coordinate, a multiple of the digit's column is added; and where one summand of a
 -- row changes by a difference, so does the sum. Assumes nothing.
-use Rattle.std.proofs.Common.{◌≡◌, ℕ, zero, suc, ◌+◌, ◌-◌, ◌*◌, ◌/◌, ◌%◌, ◌^◌, ◌<◌, ◌≤◌, cond, ltb, ◌≢◌, List, [], length, get_or, set, sym, refl, ap, ◌∙◌, subst, ap₂, ⊎_elim, add-one, arith}
+use Rattle.std.proofs.Common.{◌≡◌, ℕ, suc, ◌+◌, ◌<◌, ◌≤◌, List, length, get_or, set, sym, refl, ap, ◌∙◌, subst, ap₂, ⊎_elim, add-one, arith}
 use Rattle.std.proofs.lemmas.List.{get_or-set_other, get_or-set_same}
-use Rattle.std.proofs.lemmas.Bool.{cases_eq, cases_lt}
-use Rattle.base.specs.Fields.{FieldLaws, FieldModel, sum_over}
+use Rattle.std.proofs.lemmas.Bool.{cases_eq}
+use Rattle.base.specs.Fields.{FieldModel}
 use Rattle.base.specs.Tables.{TableModel}
 use Rattle.run.specs.Present.{Changed, no_digits, shown}
 use Rattle.run.specs.declared.coordinate.Coordinate.{Coordinate}

@@ -1,20 +1,20 @@
 -- The law over every list of calls. Along a history the table stays the one that was opened; so what each call hands out is a point
 -- of that table, and each verdict is the first t whose splits pass. The theorem of blocks does the rest. Assumes nothing.
-use Rattle.std.proofs.Common.{◌≡◌, ℕ, zero, suc, ◌+◌, ◌-◌, ◌*◌, ◌/◌, ◌^◌, ◌<◌, ◌≤◌, ◌⊎◌, List, [], ◌∷◌, map, length, get_or, sym, refl, ap, ◌∙◌, subst, subst₂, inl, inr, ⊎_elim, arith}
+use Rattle.std.proofs.Common.{◌≡◌, ℕ, ◌+◌, ◌*◌, ◌^◌, ◌<◌, ◌≤◌, List, [], ◌∷◌, map, sym, refl, ap, ◌∙◌, subst, subst₂, ⊎_elim, arith}
 use Rattle.std.proofs.lemmas.List.FromFn.{fill_by_all, get_or-map-range_with_len, length-map-range_with_len}
-use Rattle.std.proofs.lemmas.Bool.{cases_eq, cases_lt}
+use Rattle.std.proofs.lemmas.Bool.{cases_lt}
 use Rattle.std.specs.List.{range_with_len}
-use Rattle.base.specs.Blocks.{BlockWithin, Fit, TableOver, block_points}
+use Rattle.base.specs.Blocks.{Fit, TableOver, block_points}
 use Rattle.base.specs.Independence.{AllPass, FirstPassing}
 use Rattle.base.specs.Nets.{Least, Net}
-use Rattle.base.specs.Tables.{SameTable, TableModel}
-use Rattle.base.specs.Tests.{Clean, Refused}
+use Rattle.base.specs.Tables.{TableModel}
+use Rattle.base.specs.Tests.{Refused}
 use Rattle.nets.proofs.BlockNets.{least_t_is_the_first}
 use Rattle.nets.proofs.ZeroNets.{faure_tables_have_t_zero_spec, single_sobol_tables_have_t_zero_spec}
 use Rattle.run.specs.Law.{Answered, HandedOut, HandsOut, History, Law, LawOfHistories, Log}
-use Rattle.run.specs.Runs.{Answer, Answers, Parts, View, at_accepted, call_refused, call_tests, jump_accepted, jumped, least, opened, point_of, pointed, refused, step_accepted, stepped, verdict_accepted}
+use Rattle.run.specs.Runs.{Answer, Answers, Parts, View, at_accepted, call_refused, call_tests, jump_accepted, least, opened, point_of, step_accepted, verdict_accepted}
 use Rattle.run.specs.declared.replay.Call.{Call}
-use Rattle.run.specs.declared.replay.Call.TheVariants.{Step, Jump, At, Verdict}
+use Rattle.run.specs.declared.replay.Call.TheVariants.{Verdict}
 
 -- 0 is not 1
 clash : ◌≡◌ {A = ℕ} 0 1 → {X : Type 0} → X

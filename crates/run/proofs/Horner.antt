@@ -1,7 +1,7 @@
 -- Horner's rule: the number of a word, digit by digit from the first. Assumes nothing.
-use Rattle.std.proofs.Common.{◌≡◌, ℕ, zero, suc, ◌+◌, ◌*◌, ◌%◌, ◌^◌, ◌<◌, ◌≤◌, List, [], ◌∷◌, ◌++◌, length, get_or, take, sym, refl, ap, ◌∙◌, subst, ap₂, add-zero, add_assoc, mod-eq_of_lt, mul_assoc, add-mul, pow-suc, zero-add, zero-mul, mul-one, arith}
-use native.Mathlib.Nat.{one-le-pow, pow-le-pow_right, pow-zero}
-use Rattle.std.proofs.lemmas.List.{length-append, length-take-le, take_more}
+use Rattle.std.proofs.Common.{◌≡◌, ℕ, suc, ◌+◌, ◌*◌, ◌%◌, ◌^◌, ◌<◌, ◌≤◌, List, [], ◌∷◌, ◌++◌, length, get_or, take, sym, refl, ap, ◌∙◌, ap₂, add-zero, add_assoc, mod-eq_of_lt, mul_assoc, add-mul, pow-suc, zero-add, zero-mul, mul-one, arith}
+use native.Mathlib.Nat.{pow-le-pow_right, pow-zero}
+use Rattle.std.proofs.lemmas.List.{length-append, take_more}
 use Rattle.base.specs.Digits.{AllDigits}
 use Rattle.base.specs.Points.{numerator}
 use Rattle.base.specs.Scramblers.{Word}

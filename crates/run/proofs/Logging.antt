@@ -1,6 +1,6 @@
 -- The log of a list of calls, call by call: a history goes on with the next call's answer. After an open it is a replay.
 -- Assumes nothing.
-use Rattle.std.proofs.Common.{◌≡◌, ℕ, zero, suc, ◌+◌, ◌<◌, ◌≤◌, List, [], ◌∷◌, ◌++◌, length, get_or, take, set, Option, sym, refl, ap, ◌∙◌, subst, ap₂, arith}
+use Rattle.std.proofs.Common.{◌≡◌, ℕ, ◌+◌, ◌<◌, ◌≤◌, List, [], ◌∷◌, ◌++◌, length, get_or, take, set, Option, sym, refl, ap, ◌∙◌, subst, ap₂, arith}
 use Rattle.std.proofs.lemmas.List.{length-take-le, take_all, take_more, take_more_set}
 use Rattle.base.specs.Tables.{TableModel}
 use Rattle.tables.specs.declared.table.Table.{Table}

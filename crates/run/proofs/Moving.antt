@@ -1,19 +1,17 @@
 -- From one index to another, digit by digit: up to column l the rows are taken at the digits of the new index, from there on at
 -- those of the old one. Where the two have equal quotients by q^l, all further digits agree. Assumes nothing.
-use Rattle.std.proofs.Common.{◌≡◌, ℕ, zero, suc, ◌+◌, ◌-◌, ◌*◌, ◌/◌, ◌%◌, ◌^◌, ◌<◌, ◌≤◌, Bool, true, false, cond, not, eqb, ltb, ◌≢◌, List, [], sym, refl, ap, ◌∙◌, subst, ap₂, ⊎_elim, add-zero, mod-lt, mul_comm, pow-suc, zero-add, div-one, add-one, arith, pow-add}
+use Rattle.std.proofs.Common.{◌≡◌, ℕ, zero, suc, ◌+◌, ◌-◌, ◌*◌, ◌/◌, ◌%◌, ◌^◌, ◌<◌, ◌≤◌, Bool, cond, not, eqb, ltb, ◌≢◌, List, sym, refl, ap, ◌∙◌, subst, ap₂, ⊎_elim, add-zero, mod-lt, pow-suc, zero-add, div-one, add-one, arith, pow-add}
 use native.Mathlib.Nat.{div-div-eq-div-mul, pow-zero}
 use Rattle.std.proofs.lemmas.Bool.{cases_eq, cases_lt, cond-false, cond-true, eq-eqb, le-ltb, lt-ltb, ne_eqb}
-use Rattle.std.specs.List.{range_with_len}
 use Rattle.base.proofs.FieldAlgebra.{sum_over_digit, sum_over_same, sum_zero_right, zero_digit}
 use Rattle.base.specs.Blocks.{TableOver}
 use Rattle.base.specs.Fields.{FieldLaws, FieldModel, sum_over}
-use Rattle.base.specs.Nets.{count}
 use Rattle.base.specs.Orders.{digit}
-use Rattle.base.specs.Tables.{Inside, TableModel}
+use Rattle.base.specs.Tables.{TableModel}
 use Rattle.nets.proofs.Counting.{sum_joined, sum_of_zeros, sum_same, sum_below}
 use Rattle.nets.proofs.Solutions.{count_is_sum}
 use Rattle.nets.proofs.Systems.{skip, skip_not, skipped_below, sum_over_without}
-use Rattle.run.specs.Present.{Changed, Moved, Present, changed_digits}
+use Rattle.run.specs.Present.{Changed, Present, changed_digits}
 use Rattle.run.specs.declared.coordinate.Coordinate.{Coordinate}
 
 -- ---- one summand

@@ -1,20 +1,19 @@
 -- From present digits to points. At the index 0 the rows are 0. Coordinates that show the rows at an index hold the words there, and
 -- the numerators written from them are those of the point formula. Assumes nothing.
-use Rattle.std.proofs.Common.{◌≡◌, ℕ, zero, suc, ◌+◌, ◌/◌, ◌%◌, ◌^◌, ◌<◌, ◌≤◌, List, [], ◌∷◌, map, length, get_or, take, replicate, sym, refl, ap, ◌∙◌, subst, ap₂, mod-lt, zero-add, arith}
+use Rattle.std.proofs.Common.{◌≡◌, ℕ, suc, ◌/◌, ◌%◌, ◌^◌, ◌<◌, ◌≤◌, List, length, get_or, take, replicate, sym, ap, ◌∙◌, subst, mod-lt, arith}
 use native.Mathlib.Nat.{zero-div, zero-mod}
 use Rattle.std.proofs.lemmas.List.FromFn.{fill_by_all, get_or-map-range_with_len, length-map-range_with_len}
 use Rattle.std.proofs.lemmas.List.{get_or-replicate, get_or-take, length-take-le}
-use Rattle.std.specs.List.{range_with_len}
-use Rattle.base.proofs.FieldAlgebra.{product_zero_right, sum_over_digit, sum_over_same, zero_digit}
+use Rattle.base.proofs.FieldAlgebra.{product_zero_right, sum_over_digit, sum_over_same}
 use Rattle.base.proofs.Widths.{at_most_32_digits}
-use Rattle.base.specs.Blocks.{Fit, TableOver}
-use Rattle.base.specs.Fields.{FieldLaws, FieldModel, sum_over}
-use Rattle.base.specs.Orders.{OrderLaws, digit}
+use Rattle.base.specs.Blocks.{TableOver}
+use Rattle.base.specs.Fields.{FieldModel}
+use Rattle.base.specs.Orders.{digit}
 use Rattle.base.specs.Points.{numerator, row, word}
-use Rattle.base.specs.Scramblers.{ScramblerLaws, ScramblerModel, Scrambles, Word}
+use Rattle.base.specs.Scramblers.{ScramblerLaws, Scrambles}
 use Rattle.base.specs.Tables.{Limits, TableModel}
 use Rattle.nets.proofs.FieldSums.{sum_over_none}
-use Rattle.run.specs.Present.{Present, no_digits, shown}
+use Rattle.run.specs.Present.{Present, no_digits}
 use Rattle.run.specs.Runs.{Agree, Parts, point_of}
 use Rattle.run.specs.Written.{Readable, Writes}
 use Rattle.run.specs.declared.coordinate.Coordinate.{Coordinate}

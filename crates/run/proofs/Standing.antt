@@ -1,9 +1,9 @@
 -- The calls of a run from those of its cursor: an empty run refuses each, and an open one answers for its table. And the law stands
 -- where a table was opened. Assumes nothing.
-use Rattle.std.proofs.Common.{◌≡◌, ℕ, ◌<◌, ◌≤◌, ◌⊎◌, List, [], ◌∷◌, ◌++◌, Some, None, Ok, Err, Option, Result, sym, refl, ap, ◌∙◌, subst, subst₂, inl, inr, ⊎_elim, arith}
-use Rattle.base.proofs.Testing.{clean_append, refused_left, refused_right}
-use Rattle.base.specs.Blocks.{Fit, TableOver}
-use Rattle.base.specs.Faults.{Refusal, refusal, stated}
+use Rattle.std.proofs.Common.{◌≡◌, ℕ, List, ◌++◌, Some, None, Ok, Err, Option, Result, sym, ap, ◌∙◌, subst, inl, ⊎_elim}
+use Rattle.base.proofs.Testing.{clean_append, refused_right}
+use Rattle.base.specs.Blocks.{Fit}
+use Rattle.base.specs.Faults.{refusal, stated}
 use Rattle.base.specs.Fields.{FieldLaws}
 use Rattle.base.specs.Independence.{FirstPassing}
 use Rattle.base.specs.Orders.{OrderLaws}
@@ -15,7 +15,6 @@ use Rattle.tables.specs.Sobol.{sobol_table, sobol_tests}
 use Rattle.tables.specs.Table.{model}
 use Rattle.tables.specs.declared.table.Table.{Table}
 use Rattle.verdict.specs.Search.{search_tests}
-use Rattle.run.specs.Law.{LawOfHistories}
 use Rattle.run.specs.Runs.{Agree, Answer, Answers, Parts, call_refused, call_tests, open_tests, verdict_accepted}
 use Rattle.run.specs.States.{Consistent, Opens, Shows, verdict_answer, view, view_of}
 use Rattle.run.specs.declared.cursor.Cursor.{Cursor}

@@ -7,9 +7,9 @@ use Rattle.base.specs.Tables.{SameTable, TableModel}
 use Rattle.base.specs.Tests.{Clean}
 use Rattle.tables.specs.Faure.{faure_table, faure_tests}
 use Rattle.tables.specs.Sobol.{sobol_table, sobol_tests}
-use Rattle.run.specs.Runs.{Answer, Answers, Parts, View, least, opened, point_of, pointed, refused, stepped}
+use Rattle.run.specs.Runs.{Answer, Answers, Parts, View, least, opened, point_of, pointed, stepped}
 use Rattle.run.specs.declared.replay.Call.{Call}
-use Rattle.run.specs.declared.replay.Call.TheVariants.{Step, Jump, At, Verdict}
+use Rattle.run.specs.declared.replay.Call.TheVariants.{Step, At, Verdict}
 
 -- calls with their answers, in order
 abbrev pub Log : Type 0

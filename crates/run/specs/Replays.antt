@@ -1,5 +1,5 @@
 -- A list of calls that is made, and its log. Assumes nothing.
-use Rattle.std.specs.Prelude.{◌≡◌, ℕ, List, [], ◌∷◌, ◌++◌, take, Option, ◌≢◌}
+use Rattle.std.specs.Prelude.{ℕ, List, [], ◌∷◌, ◌++◌, take, Option, ◌≢◌}
 use Rattle.base.specs.Faults.{refusal, stated}
 use Rattle.base.specs.Tables.{TableModel}
 use Rattle.base.specs.Tests.{Test, test}

@@ -1,5 +1,5 @@
 -- Two scramblers, one after the other. Assumes nothing.
-use Rattle.std.specs.Prelude.{◌≡◌, ℕ, Bool, true, cond, ◌&&◌, List, [], ◌∷◌, ◌==◌, ◌≢◌}
+use Rattle.std.specs.Prelude.{Bool, true, cond, ◌&&◌, List, [], ◌∷◌, ◌==◌, ◌≢◌}
 use Rattle.base.specs.Faults.{refusal}
 use Rattle.base.specs.Scramblers.{ScramblerModel}
 use Rattle.base.specs.Tests.{Test, test}

@@ -1,20 +1,18 @@
 -- The product of a triangular matrix and a word: each digit follows from the digits read before it, so the scrambler keeps
 -- its laws; and it can be done in place from the last row up.
 -- Assumes nothing.
-use Rattle.std.specs.Prelude.{◌≡◌, ℕ, suc, ◌+◌, ◌-◌, ◌*◌, ◌<◌, ◌≤◌, true, false, cond, ◌≢◌, List, [], ◌∷◌, ◌++◌, map, length, take, ◌==◌, slice_index, slice_set, refl}
-use Rattle.std.proofs.Common.{sym, ◌∙◌, ap, ap₂, subst, ⊎_elim, add-one, arith}
-use Rattle.std.specs.List.{range_with_len}
+use Rattle.std.specs.Prelude.{◌≡◌, ℕ, suc, ◌+◌, ◌-◌, ◌*◌, ◌<◌, ◌≤◌, true, false, cond, ◌≢◌, List, [], ◌∷◌, ◌++◌, length, take, ◌==◌, slice_index, slice_set, refl}
+use Rattle.std.proofs.Common.{sym, ◌∙◌, ap, subst, ⊎_elim, add-one, arith}
 use Rattle.std.proofs.lemmas.List.FromFn.{get_or-map-range_with_len, length-map-range_with_len}
 use Rattle.std.proofs.lemmas.List.{ext_get_or, get_or_past, get_or-set_other, get_or-set_same, get_or-take, length-set, length-take-le, take_more}
 use Rattle.std.proofs.lemmas.Bool.{cases_eq, cond-false, cond-true, eq-eqb, ne_eqb}
 use Rattle.base.proofs.FieldAlgebra.{product_zero_left, sum_over_same, sum_over_zeros}
-use Rattle.base.specs.Digits.{AllDigits}
 use Rattle.base.specs.Fields.{FieldLaws, FieldModel, sum_over}
 use Rattle.base.specs.Scramblers.{ScramblerLaws, Word}
 use Rattle.base.specs.Tables.{Limits}
 use Rattle.scramblers.specs.Linear.{linear_scrambler, linear_word, misplaced}
-use Rattle.scramblers.specs.Prefix.{by_prefix, scrambler_of}
-use Rattle.scramblers.specs.Prefixes.{ScrambledUpTo, kept_by_prefix, prefix_rule_keeps_laws, scrambled_all}
+use Rattle.scramblers.specs.Prefix.{by_prefix}
+use Rattle.scramblers.specs.Prefixes.{kept_by_prefix, prefix_rule_keeps_laws, scrambled_all}
 use Rattle.scramblers.specs.Words.{word_from_test}
 use Rattle.scramblers.specs.Shapes.{scrambles}
 use Rattle.scramblers.specs.Triangles.{cell, linear_rule_digit, linear_rule_one_to_one, linear_rule, matrix_above, matrix_digit}

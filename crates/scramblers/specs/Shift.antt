@@ -1,5 +1,5 @@
 -- Digital shifts. Assumes nothing.
-use Rattle.std.specs.Prelude.{◌≡◌, ℕ, ◌+◌, ◌*◌, ◌%◌, List, [], ◌∷◌, length, ◌≢◌, slice_index}
+use Rattle.std.specs.Prelude.{ℕ, ◌+◌, ◌*◌, ◌%◌, List, [], ◌∷◌, length, ◌≢◌, slice_index}
 use Rattle.base.specs.Digits.{digit_tests}
 use Rattle.base.specs.Faults.{refusal}
 use Rattle.base.specs.Scramblers.{ScramblerModel}

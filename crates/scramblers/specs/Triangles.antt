@@ -1,17 +1,16 @@
 -- Triangular matrices over a field: which bytes stand where, and a row's sum, in which the digit on the diagonal can be
 -- told from the others.
 -- Assumes nothing.
-use Rattle.std.specs.Prelude.{◌≡◌, ℕ, suc, ◌+◌, ◌-◌, ◌*◌, ◌/◌, ◌%◌, ◌<◌, ◌≤◌, Bool, true, false, not, ◌&&◌, ◌||◌, List, [], ◌∷◌, ◌++◌, length, ◌==◌, ◌≢◌, nat_le, nat_lt, slice_index, slice_index_or, refl}
+use Rattle.std.specs.Prelude.{◌≡◌, ℕ, suc, ◌+◌, ◌*◌, ◌%◌, ◌<◌, false, not, ◌&&◌, List, [], ◌∷◌, ◌++◌, length, ◌==◌, ◌≢◌, nat_le, nat_lt, slice_index, slice_index_or, refl}
 use Rattle.std.proofs.Common.{sym, ◌∙◌, ap, ap₂, subst, arith}
 use Rattle.std.proofs.Math.Logic.{⊎_elim}
 use Rattle.std.proofs.lemmas.Nat.{div-mul-add, mod-mul-add}
 use Rattle.std.proofs.lemmas.List.{get_or_append_left, get_or_at}
-use Rattle.std.proofs.lemmas.Bool.{and_cases, cases_eq, eq-eqb, eqb-false, leb-false, lt-ltb, not-false, eqb-true, or_parts, true≢false}
+use Rattle.std.proofs.lemmas.Bool.{and_cases, eqb-false, leb-false, lt-ltb, not-false, eqb-true, or_parts, true≢false}
 use Rattle.base.proofs.Cubes.{cube_place_below}
 use Rattle.base.proofs.FieldAlgebra.{product_cancel_left, sum_cancel_left, sum_over_digit, sum_over_same}
 use Rattle.base.specs.Digits.{AllDigits}
 use Rattle.base.specs.Fields.{FieldLaws, FieldModel, sum_over}
-use Rattle.base.specs.Tables.{Inside}
 use Rattle.scramblers.specs.Linear.{column_in, misplaced, row_in}
 
 -- the place of row k and column i, both from 0, of the matrix of coordinate j

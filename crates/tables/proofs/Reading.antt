@@ -9,7 +9,6 @@ use Rattle.base.specs.declared.faults.Fault.{Fault}
 use Rattle.base.specs.Faults.{Refusal, refusal, stated}
 use Rattle.base.specs.Tests.{Test, Clean, Refused}
 use Rattle.tables.specs.declared.record.Record.{Record}
-use Rattle.tables.specs.declared.sobol.AllNumbers.{AllNumbers}
 use Rattle.tables.specs.Directions.{Numbers, record_tests}
 use Rattle.tables.specs.Reader.{Next, Stands, Whole, record_at}
 use Rattle.tables.specs.Record.{Layout}

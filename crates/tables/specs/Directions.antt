@@ -1,5 +1,5 @@
 -- Direction numbers: Sobol's recurrence, and the tests of a record. Assumes nothing.
-use Rattle.std.specs.Prelude.{◌≡◌, ℕ, zero, suc, ◌+◌, ◌-◌, ◌*◌, ◌/◌, ◌%◌, ◌^◌, ◌<◌, ◌≤◌, cond, List, [], ◌∷◌, ◌==◌, bit_xor, nat_le, slice_index}
+use Rattle.std.specs.Prelude.{◌≡◌, ℕ, zero, suc, ◌-◌, ◌*◌, ◌/◌, ◌%◌, ◌^◌, ◌<◌, ◌≤◌, cond, List, [], ◌∷◌, ◌==◌, bit_xor, nat_le, slice_index}
 use Rattle.base.specs.Faults.{refusal}
 use Rattle.base.specs.Tests.{Test, test}
 use Rattle.tables.specs.Primitive.{Primitive}

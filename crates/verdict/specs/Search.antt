@@ -1,5 +1,5 @@
 -- The refusals of the search for t. Assumes nothing.
-use Rattle.std.specs.Prelude.{◌≡◌, ℕ, ◌<◌, List, [], ◌∷◌, ◌≢◌}
+use Rattle.std.specs.Prelude.{ℕ, ◌<◌, List, [], ◌∷◌, ◌≢◌}
 use Rattle.base.specs.Faults.{refusal}
 use Rattle.base.specs.Fields.{FieldModel}
 use Rattle.base.specs.Tables.{TableModel}

@@ -1,8 +1,7 @@
-use Rattle.std.proofs.Common.{◌≡◌, ℕ, ◌-◌, ◌^◌, ◌<◌, ◌≤◌, List, get_or, sym, refl, ap, ◌∙◌, subst, subst₂, arith, rules}
+use Rattle.std.proofs.Common.{◌≡◌, ◌-◌, ◌^◌, ◌≤◌, get_or, sym, refl, ap, ◌∙◌, subst, subst₂, arith}
 use mathlib.Core.Bool.{false≢true}
 use Rattle.std.proofs.lemmas.Bool.Decides.{not_from_Decides}
 use Rattle.base.specs.Nets.{Even, Split, total}
-use Rattle.base.specs.Splits.{counts_of}
 use Rattle.base.proofs.SplitsPassed.{all_passed, passed_next}
 use Rattle.checks.proofs.Splitting.{power_at_most}
 use Rattle.checks.specs.Counting.{points_of}

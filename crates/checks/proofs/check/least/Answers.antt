@@ -1,6 +1,6 @@
-use Rattle.std.proofs.Common.{◌≡◌, ◌^◌, ◌<◌, refl, ◌∙◌, subst, arith, rules, below_more}
+use Rattle.std.proofs.Common.{◌≡◌, ◌^◌, ◌<◌, refl, ◌∙◌, arith, below_more}
 use Rattle.std.proofs.lemmas.Bool.Decides.{not_from_Decides}
-use Rattle.base.specs.Nets.{Least, Net}
+use Rattle.base.specs.Nets.{Net}
 use Rattle.checks.proofs.Blocks.{length_points, net_for_m}
 use Rattle.checks.proofs.CellNumbers.{points_within, power_positive}
 use Rattle.checks.specs.Counting.{points_of}

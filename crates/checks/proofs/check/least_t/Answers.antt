@@ -1,4 +1,4 @@
-use Rattle.std.proofs.Common.{◌≡◌, ◌*◌, ◌^◌, ◌≤◌, length, get_or, sym, refl, ap, ◌∙◌, subst, subst₂, inr, arith, rules}
+use Rattle.std.proofs.Common.{◌≡◌, ◌*◌, ◌^◌, ◌≤◌, length, get_or, sym, refl, ap, ◌∙◌, subst, subst₂, inr, arith}
 use mathlib.Core.Bool.{false≢true}
 use mathlib.Core.Path.{subst₃}
 use Rattle.base.proofs.Testing.{digits_clean, digits_refused}

@@ -1,10 +1,9 @@
-use Rattle.std.proofs.Common.{◌^◌, [], ◌∷◌, sym, refl, subst, subst₂, inl, inr, arith, rules}
+use Rattle.std.proofs.Common.{◌^◌, [], ◌∷◌, sym, refl, subst, subst₂, inl, inr, rules}
 use mathlib.Core.Bool.{false≢true}
 use Rattle.std.proofs.lemmas.Bool.Decides.{not_from_Decides}
 use Rattle.base.proofs.Testing.{clean_append, digits_clean, digits_refused, refused_left, refused_right}
 use Rattle.base.specs.Digits.{AllDigits, FirstBad, digit_tests}
 use Rattle.base.specs.Faults.{refusal, stated}
-use Rattle.base.specs.Tables.{Limits}
 use Rattle.base.specs.Tests.{test}
 use Rattle.checks.specs.Settings.{AllTravel, Scaled}
 use Rattle.checks.proofs.travel.tested_settings.Goals as goal

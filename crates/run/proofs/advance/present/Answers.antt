@@ -1,4 +1,4 @@
-use Rattle.std.proofs.Common.{◌≡◌, ◌<◌, arith}
+use Rattle.std.proofs.Common.{arith}
 use native.Mathlib.Nat.{one-le-pow}
 use Rattle.tables.specs.Table.{model}
 use Rattle.verdict.proofs.SplitAnswers.{table_over}

@@ -1,4 +1,4 @@
-use Rattle.std.proofs.Common.{refl, inr, rules}
+use Rattle.std.proofs.Common.{inr, rules}
 use Rattle.base.proofs.Testing.{digits_clean, digits_refused}
 use Rattle.tables.proofs.raw.raw_table.Goals as goal
 

@@ -1,4 +1,4 @@
-use Rattle.std.proofs.Common.{◌≤◌, refl, subst, arith, rules}
+use Rattle.std.proofs.Common.{refl, subst, arith, rules}
 use Rattle.base.proofs.Widths.{at_most_32_digits}
 use Rattle.base.specs.Tables.{DigitLimits}
 use Rattle.base.specs.Tests.{Clean}

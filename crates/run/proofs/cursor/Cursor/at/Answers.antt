@@ -1,4 +1,4 @@
-use Rattle.std.proofs.Common.{◌≡◌, ℕ, ◌^◌, ◌<◌, ◌≤◌, true, false, length, get_or, sym, refl, ◌∙◌, subst, subst₂, inl, inr, true≢false, arith}
+use Rattle.std.proofs.Common.{◌≡◌, ◌^◌, ◌<◌, ◌≤◌, length, get_or, sym, refl, ◌∙◌, subst, subst₂, inl, inr, true≢false, arith}
 use Rattle.base.specs.Faults.{stated}
 use Rattle.base.specs.Orders.{digit}
 use Rattle.base.specs.Tests.{Refused}

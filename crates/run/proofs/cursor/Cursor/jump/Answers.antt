@@ -1,4 +1,4 @@
-use Rattle.std.proofs.Common.{◌≡◌, ℕ, ◌^◌, ◌<◌, ◌≤◌, true, false, sym, refl, ◌∙◌, subst, inl, inr, true≢false, arith}
+use Rattle.std.proofs.Common.{◌^◌, ◌<◌, ◌≤◌, sym, refl, subst, inl, true≢false, arith}
 use Rattle.base.specs.Faults.{stated}
 use Rattle.base.specs.Orders.{digit}
 use Rattle.tables.specs.Table.{model}

@@ -1,4 +1,4 @@
-use Rattle.std.proofs.Common.{◌≡◌, sym, refl, ap, subst}
+use Rattle.std.proofs.Common.{sym, refl, ap, subst}
 use Rattle.base.specs.Faults.{stated}
 use Rattle.base.specs.Tests.{Gives}
 use Rattle.run.specs.Runs.{call_refused, call_tests, parts}

@@ -1,8 +1,8 @@
-use Rattle.std.proofs.Common.{◌≡◌, length, get_or, sym, refl, ◌∙◌, subst, arith}
+use Rattle.std.proofs.Common.{◌≡◌, get_or, refl, ◌∙◌, subst}
 use Rattle.std.proofs.lemmas.List.{length-set}
 use Rattle.run.specs.Law.{History}
 use Rattle.run.specs.Replays.{answer_of}
-use Rattle.run.specs.Runs.{Answers, Parts, parts}
+use Rattle.run.specs.Runs.{Answers, parts}
 use Rattle.run.specs.States.{Consistent, view}
 use Rattle.run.specs.declared.replay.Call.TheVariants.{Step}
 use Rattle.run.proofs.Logging.{log_all, log_more}

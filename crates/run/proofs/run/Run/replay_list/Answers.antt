@@ -1,8 +1,8 @@
-use Rattle.std.proofs.Common.{◌≡◌, length, sym, refl, ◌∙◌, subst, inl, inr, true≢false}
+use Rattle.std.proofs.Common.{◌≡◌, refl, ◌∙◌, subst, inl, inr, true≢false}
 use Rattle.std.proofs.lemmas.Result.{err_from_is_err_and}
 use Rattle.run.specs.Law.{History}
 use Rattle.run.specs.Replays.{log_of}
-use Rattle.run.specs.Runs.{Parts, parts}
+use Rattle.run.specs.Runs.{parts}
 use Rattle.run.specs.States.{Consistent, view}
 use Rattle.run.proofs.Logging.{replayed}
 use Rattle.run.proofs.run.Run.replay_list.Goals as goal

@@ -1,4 +1,4 @@
-use Rattle.std.proofs.Common.{sym, refl, ◌∙◌}
+use Rattle.std.proofs.Common.{refl}
 use Rattle.base.proofs.Testing.{refused_left}
 use Rattle.base.specs.Faults.{stated}
 use Rattle.std.proofs.lemmas.Result.{err_from_is_err_and}

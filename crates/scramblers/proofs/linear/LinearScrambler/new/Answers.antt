@@ -1,5 +1,4 @@
 use Rattle.std.proofs.Common.{refl, subst, inr, arith, rules}
-use Rattle.base.specs.Tables.{Limits}
 use Rattle.scramblers.proofs.Placing.{limits_of_shape, matrices_fit, places_clean, places_refused}
 use Rattle.scramblers.specs.Matrices.{AllPlaced, FirstMisplaced}
 use Rattle.scramblers.specs.Shapes.{HasShape}

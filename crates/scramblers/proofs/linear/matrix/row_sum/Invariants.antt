@@ -1,4 +1,4 @@
-use Rattle.std.proofs.Common.{◌≡◌, ℕ, ◌+◌, get_or}
+use Rattle.std.proofs.Common.{◌≡◌, ◌+◌, get_or}
 use Rattle.base.specs.Fields.{sum_over}
 use Rattle.scramblers.proofs.linear.matrix.row_sum.Given as goal
 

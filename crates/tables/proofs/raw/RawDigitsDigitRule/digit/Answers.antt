@@ -1,4 +1,4 @@
-use Rattle.std.proofs.Common.{◌<◌, sym, refl, subst, arith, rules}
+use Rattle.std.proofs.Common.{refl, arith}
 use Rattle.base.proofs.Cubes.{cube_place_below}
 use Rattle.tables.proofs.raw.RawDigitsDigitRule.digit.Goals as goal
 

@@ -1,6 +1,5 @@
-use Rattle.std.proofs.Common.{sym, ◌∙◌, arith, rules}
+use Rattle.std.proofs.Common.{sym, arith}
 use Rattle.base.proofs.Widths.{at_most_32_digits}
-use Rattle.base.specs.Tables.{Inside}
 use Rattle.tables.proofs.Spreading.{spread_entry, spread_small, spread_spare}
 use Rattle.tables.proofs.table.Table.build.Goals as goal
 

@@ -1,4 +1,4 @@
-use Rattle.std.proofs.Common.{◌≡◌, ◌≤◌, length}
+use Rattle.std.proofs.Common.{◌≡◌, length}
 use Rattle.tables.specs.Table.{Spread}
 use Rattle.tables.proofs.table.digits.spread.Given as goal
 

@@ -1,4 +1,4 @@
-use Rattle.std.proofs.Common.{◌≡◌, ◌-◌, ◌<◌, sym, ◌∙◌, subst, arith, rules}
+use Rattle.std.proofs.Common.{◌≡◌, ◌-◌, ◌<◌, sym, ◌∙◌, subst, arith}
 use Rattle.scramblers.specs.MatrixProducts.{ScrambledFrom, linear_in_place, scrambled_from_end, scrambled_row}
 use Rattle.scramblers.proofs.Placing.{matrices_fit}
 use Rattle.scramblers.specs.Triangles.{cell_below}
