@@ -2,7 +2,7 @@
 -- Assumes nothing.
 use Rattle.std.proofs.Common.{◌≡◌, ℕ, suc, ◌+◌, ◌-◌, ◌*◌, ◌/◌, ◌^◌, ◌<◌, Bool, true, eqb, List, [], ◌∷◌, length, get_or, take, drop, sym, refl, ap, ◌∙◌, subst, arith}
 use native.Mathlib.Nat.{div-eq_of_lt, pow-zero, sub_self}
-use Rattle.std.specs.List.{AllByRecursion as All}
+use Rattle.std.specs.List.{AllByRecursion}
 use Rattle.std.proofs.lemmas.List.FromFn.{length-map-range_with_len}
 use Rattle.std.proofs.ByRecursion.{All-weaker}
 use Rattle.std.proofs.lemmas.List.{get_or-drop}
@@ -25,11 +25,11 @@ in_only_cell q M (d ∷ ds) (v ∷ vs) point none is small =
     (eq-eqb _ _ (ap (λ n. get_or point 0 0 / q ^ n) whole ∙ div-eq_of_lt (small 0) ∙ sym none_below))
     (in_only_cell q M ds vs (drop 1 point) (omega arith) is.1 (λ j. subst (λ x. x < q ^ M) (sym (get_or-drop 1 point j 0)) (small (1 + j))))
 
-count_all : {X : Type 0} (passes : X → Bool) (xs : List X) → All (λ x. passes x ≡ true) xs → count passes xs ≡ length xs
+count_all : {X : Type 0} (passes : X → Bool) (xs : List X) → AllByRecursion (λ x. passes x ≡ true) xs → count passes xs ≡ length xs
 count_all passes [] all = refl
 count_all passes (x ∷ xs) all = cond-true (passes x) _ _ all.0 ∙ ap suc (count_all passes xs all.1)
 
-pub net_for_m : (q M s m : ℕ) (points : List (List ℕ)) → length points ≡ q ^ m → All (Within (q ^ M)) points → Net q M s m m points
+pub net_for_m : (q M s m : ℕ) (points : List (List ℕ)) → length points ≡ q ^ m → AllByRecursion (Within (q ^ M)) points → Net q M s m m points
 net_for_m q M s m points size small =
     record {
       size = size;

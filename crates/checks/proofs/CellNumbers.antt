@@ -7,7 +7,7 @@ use Rattle.std.proofs.ByRecursion.{All-from_get_or, All-map, All-weaker}
 use Rattle.std.proofs.lemmas.List.{get_or-drop, get_or_past, get_or-take, length-take}
 use Rattle.std.proofs.lemmas.Bool.{cases_lt}
 use Rattle.std.proofs.lemmas.Bool.Decides.{Decides-and, Decides-eqb, Decides-like, same_from_decides}
-use Rattle.std.specs.List.{range_with_len, AllByRecursion as All}
+use Rattle.std.specs.List.{range_with_len, AllByRecursion}
 use Rattle.base.specs.Digits.{AllDigits}
 use Rattle.base.specs.Nets.{Cell, Even, count, in_cell, total}
 use Rattle.checks.specs.Counting.{cell_of, points_of}
@@ -126,13 +126,13 @@ in_cell_by_number q M counts cell point base fits is within =
     (Decides-like (eqb (cell_of q M 0 counts point) n) (λ e. cells_by_numbers q 0 counts here cell around is (sym named ∙ e))
     (λ e. named ∙ ap (λ a. number_of q 0 counts a) e) (Decides-eqb (cell_of q M 0 counts point) n))
 
-count_by_same_tests : {X : Type 0} (f g : X → Bool) (xs : List X) → All (λ x. f x ≡ g x) xs → count f xs ≡ count g xs
+count_by_same_tests : {X : Type 0} (f g : X → Bool) (xs : List X) → AllByRecursion (λ x. f x ≡ g x) xs → count f xs ≡ count g xs
 count_by_same_tests f g [] same = refl
 count_by_same_tests f g (x ∷ xs) same =
     ap (λ b. cond b (suc (count f xs)) (count f xs)) same.0
     ∙ ap (λ n. cond (g x) (suc n) n) (count_by_same_tests f g xs same.1)
 
-count_by_number : (q M : ℕ) (counts cell : List ℕ) (points : List (List ℕ)) → 2 ≤ q → total counts ≤ M → All (Within (q ^ M)) points → Cell q counts cell
+count_by_number : (q M : ℕ) (counts cell : List ℕ) (points : List (List ℕ)) → 2 ≤ q → total counts ≤ M → AllByRecursion (Within (q ^ M)) points → Cell q counts cell
     → count (in_cell q M counts cell) points ≡ count (λ p. eqb (cell_of q M 0 counts p) (number_of q 0 counts cell)) points
 count_by_number q M counts cell points base fits within is =
     count_by_same_tests (in_cell q M counts cell) (λ p. eqb (cell_of q M 0 counts p) (number_of q 0 counts cell)) points
@@ -140,7 +140,7 @@ count_by_number q M counts cell points base fits within is =
     (λ p w. in_cell_by_number q M counts cell p base fits is w) points within)
 
 -- a split is even exactly if each number of a cell counts h points
-pub even_by_numbers : (q M h : ℕ) (counts : List ℕ) (points : List (List ℕ)) → 2 ≤ q → total counts ≤ M → All (Within (q ^ M)) points
+pub even_by_numbers : (q M h : ℕ) (counts : List ℕ) (points : List (List ℕ)) → 2 ≤ q → total counts ≤ M → AllByRecursion (Within (q ^ M)) points
     → (((c : ℕ) → c < q ^ total counts → count (λ p. eqb (cell_of q M 0 counts p) c) points ≡ h) → Even q M h points counts)
     × (Even q M h points counts → (c : ℕ) → c < q ^ total counts → count (λ p. eqb (cell_of q M 0 counts p) c) points ≡ h)
 even_by_numbers q M h counts points base fits within = (
@@ -163,7 +163,7 @@ within_take Q n xs some within j =
     (λ past. subst (λ x. x < Q) (sym (get_or_past (take n xs) j 0 (omega (arith, length-take n xs, min-le_left n (length xs))))) some) (cases_lt j n)
 
 -- the points of a list of numerators below Q
-pub points_within : (Q s n : ℕ) (xs : List ℕ) → 0 < Q → AllDigits Q xs → All (Within Q) (points_of s n xs)
+pub points_within : (Q s n : ℕ) (xs : List ℕ) → 0 < Q → AllDigits Q xs → AllByRecursion (Within Q) (points_of s n xs)
 points_within Q s n xs some digits =
     All-map (Within Q) (λ i. take s (drop (i * s) xs)) (range_with_len 0 n)
     (All-from_get_or (λ i. Within Q (take s (drop (i * s) xs))) (range_with_len 0 n) 0

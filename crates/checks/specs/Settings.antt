@@ -1,6 +1,6 @@
 -- Travel scaling. Assumes nothing.
 use Rattle.std.specs.Prelude.{◌≡◌, ℕ, ◌+◌, ◌-◌, ◌*◌, ◌/◌, ◌^◌, ◌<◌, ◌≤◌, List, [], ◌∷◌, ◌++◌, length, slice_index, slice_index_or}
-use Rattle.std.specs.List.{AllByRecursion as All}
+use Rattle.std.specs.List.{AllByRecursion}
 use Rattle.base.specs.Digits.{digit_tests}
 use Rattle.base.specs.Faults.{refusal}
 use Rattle.base.specs.Tables.{Limits}
@@ -17,7 +17,7 @@ TravelFits t = (1 ≤ t.span) × (t.low + t.span ≤ 65536)
 
 -- each travel of a list does
 abbrev pub AllTravel : List Travel → Type 0
-AllTravel travel = All TravelFits travel
+AllTravel travel = AllByRecursion TravelFits travel
 
 -- one setting is that of its numerator, and lies from the low count of its travel to the last
 pub record Scales (Q : ℕ) (t : Travel) (X y : ℕ) : Type 0 where

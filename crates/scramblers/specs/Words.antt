@@ -5,17 +5,17 @@ use Rattle.std.proofs.Common.{sym, arith}
 use Rattle.std.proofs.ByRecursion.{All-from_get_or, All-get_or, All-push, All-take, Decides-by_and}
 use Rattle.std.proofs.lemmas.Bool.{both_ways, cond_both, cond-true, not-false, not-true}
 use Rattle.std.proofs.lemmas.Bool.Decides.{Decides-and, Decides-eqb, Decides-like, Decides-ltb, same_from_decides}
-use Rattle.std.specs.List.{AllByRecursion as All}
+use Rattle.std.specs.List.{AllByRecursion}
 use Rattle.base.specs.Digits.{AllDigits, FirstBad}
 use Rattle.base.specs.Scramblers.{Word}
 use Rattle.scramblers.specs.Prefix.{scrambler_of}
 use Rattle.scramblers.specs.Shapes.{all_below, scrambles}
 
 module _ (q : ℕ) where
-  digits_from_all : (word : List ℕ) → All (λ a. a < q) word → AllDigits q word
+  digits_from_all : (word : List ℕ) → AllByRecursion (λ a. a < q) word → AllDigits q word
   digits_from_all word all i l = All-get_or (λ a. a < q) word i 0 l all
 
-  all_from_digits : (word : List ℕ) → AllDigits q word → All (λ a. a < q) word
+  all_from_digits : (word : List ℕ) → AllDigits q word → AllByRecursion (λ a. a < q) word
   all_from_digits word = All-from_get_or (λ a. a < q) word 0
 
   pub digits_rest : (a : ℕ) (word : List ℕ) → AllDigits q (a ∷ word) → AllDigits q word
