@@ -5,7 +5,7 @@ ghost use Rattle.base.specs.Faults.{kind_number, layer_number, refusal, shown_fa
 use std::error::Error;
 use std::fmt;
 
-/// Why a call is refused. `kindNumber` in specs/ states the number of each.
+/// Why a call is refused. `kind_number` in specs/ states the number of each.
 #[derive(Clone, Copy, PartialEq, Eq, Debug)]
 pub enum Kind {
     /// The prime field does not exist for this q.
@@ -34,7 +34,7 @@ pub enum Kind {
     OutOfMemory = 30,
 }
 
-/// Which layer refuses. `layerNumber` in specs/ states the number of each.
+/// Which layer refuses. `layer_number` in specs/ states the number of each.
 #[derive(Clone, Copy, PartialEq, Eq, Debug)]
 pub enum Layer {
     Reader = 1,

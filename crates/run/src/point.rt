@@ -1,6 +1,6 @@
 //! The numerators of a point, from the present digits.
 ghost use Rattle.std.specs.Prelude.{◌≡◌, ℕ, ◌<◌, ◌≤◌, length, take, slice_index};
-ghost use Rattle.base.specs.Points.{numerator as numeratorOf};
+ghost use Rattle.base.specs.Points.{numerator as numerator_of};
 ghost use Rattle.run.specs.Written.{Readable, Writes};
 
 use crate::coordinate::Coordinate;
@@ -8,7 +8,7 @@ use scramblers::scrambler::Scrambler;
 
 // The number that the digits of a word make in base q, first digit highest.
 fn numerator(word: &[u8], q: u8) -> u32
-    ensures { Readable q word.now → result ≡ numeratorOf q word.now }
+    ensures { Readable q word.now → result ≡ numerator_of q word.now }
 {
     let mut value = 0u32;
     for digit in word {
@@ -21,7 +21,7 @@ fn numerator(word: &[u8], q: u8) -> u32
 
 // The numerator of a word of a coordinate, which is scrambled for it.
 fn scrambled<S: Scrambler>(scrambler: &S, j: u8, word: &mut [u8], q: u8) -> u32
-    ensures { Readable q ((S.Scrambler.means scrambler.now).scramble j word.old) → result ≡ numeratorOf q ((S.Scrambler.means scrambler.now).scramble j word.old) }
+    ensures { Readable q ((S.Scrambler.means scrambler.now).scramble j word.old) → result ≡ numerator_of q ((S.Scrambler.means scrambler.now).scramble j word.old) }
 {
     scrambler.scramble(j, word);
     numerator(word, q)
@@ -37,7 +37,7 @@ fn coordinate_numerator<S: Scrambler>(
 ) -> u32
     requires { digits ≤ 32 }
     ensures size { length coordinate.now.digits ≡ 32 }
-    ensures value { Readable q ((S.Scrambler.means scrambler.now).scramble j (take digits coordinate.now.digits)) → result ≡ numeratorOf q ((S.Scrambler.means scrambler.now).scramble j (take digits coordinate.now.digits)) }
+    ensures value { Readable q ((S.Scrambler.means scrambler.now).scramble j (take digits coordinate.now.digits)) → result ≡ numerator_of q ((S.Scrambler.means scrambler.now).scramble j (take digits coordinate.now.digits)) }
 {
     let mut word = coordinate.digits;
     scrambled(scrambler, j, &mut word[0..digits as usize], q)
