@@ -69,7 +69,7 @@ fn numerator_at<F: Field, S: Scrambler>(
 }
 
 /// Writes the point of a position: the numerator of each coordinate at the order's index.
-pub fn write_point<F: Field, O: Order, S: Scrambler>(
+pub(crate) fn write_point<F: Field, O: Order, S: Scrambler>(
     field: &F,
     order: &O,
     scrambler: &S,
