@@ -1,10 +1,11 @@
 -- The numbers of faults, and what a fault prints. Assumes nothing.
-use Rattle.std.specs.Prelude.{ℕ, List, ◌++◌, codes, decimal}
+use Rattle.std.specs.Prelude.{ℕ, List, ◌++◌, codes, decimal, unwrap_or}
 use Rattle.base.specs.declared.faults.Kind.{Kind}
 use Rattle.base.specs.declared.faults.Kind.TheVariants.{NotPrime, OutOfRange, WrongLength, BadLayout, NotPrimitive, BadDirection, BadDigit, OutOfReach, Mismatch, EmptyRun, Finished, OutOfMemory}
 use Rattle.base.specs.declared.faults.Layer.{Layer}
 use Rattle.base.specs.declared.faults.Layer.TheVariants.{Reader, Tables, Run, Check, Travel, Making}
 use Rattle.base.specs.declared.faults.Fault.{Fault}
+use Rattle.base.specs.declared.faults.Numbers.{Numbers}
 
 -- the number of each cause: 1 to 9 come from the input, 20 and 21 from the state of a run, 30 from the machine
 abbrev pub kind_number : Kind → ℕ
@@ -41,11 +42,15 @@ pub record Refusal : Type 0 where
 abbrev pub refusal : ℕ → ℕ → ℕ → ℕ → Refusal
 refusal n l c p = record { number = n; layer = l; coordinate = c; place = p }
 
--- the four numbers of a fault
+-- the four numbers of a fault; 255 stands for the coordinate of one that belongs to none
 abbrev pub stated : Fault → Refusal
-stated f = refusal (kind_number f.kind) (layer_number f.layer) f.coordinate f.place
+stated f = refusal (kind_number f.kind) (layer_number f.layer) (unwrap_or f.coordinate 255) f.place
+
+-- the same as the program hands them out
+abbrev pub told : Numbers → Refusal
+told n = refusal n.0 n.1 n.2 n.3
 
 -- what a fault prints: "refused" and its four numbers, one space between two
 abbrev pub shown_fault : Fault → List ℕ
 shown_fault f =
-    codes "refused " ++ (decimal (kind_number f.kind) ++ (codes " " ++ (decimal (layer_number f.layer) ++ (codes " " ++ (decimal f.coordinate ++ (codes " " ++ decimal f.place))))))
+    codes "refused " ++ (decimal (kind_number f.kind) ++ (codes " " ++ (decimal (layer_number f.layer) ++ (codes " " ++ (decimal (unwrap_or f.coordinate 255) ++ (codes " " ++ decimal f.place))))))

@@ -7,6 +7,7 @@ pub mod Nets
 pub mod Orders
 pub mod Points
 pub mod Scramblers
+pub mod Shapes
 pub mod Splits
 pub mod Tables
 pub mod Tests

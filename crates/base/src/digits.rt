@@ -1,15 +1,24 @@
 //! The test of bytes that should be digits.
-ghost use Rattle.std.specs.Prelude.{ℕ, ◌<◌, ◌≤◌, length, MatchOption};
-ghost use Rattle.base.specs.Digits.{AllDigits, FirstBad};
+ghost use Rattle.std.specs.Prelude.{MatchOption};
+ghost use Rattle.base.specs.Digits.{AllDigits, FirstBad, digit_tests};
+ghost use Rattle.base.specs.Faults.{layer_number};
+ghost use Rattle.base.specs.Tests.{Gives};
+
+use crate::faults::{Fault, Kind, Layer};
 
 /// The index of the first byte that is no digit, being q or more; none where all are digits.
 pub fn first_bad_digit(bytes: &[u8], q: u8) -> Option<usize>
     ensures { MatchOption result (AllDigits q bytes.now) (FirstBad q bytes.now) }
 {
-    for (i, byte) in bytes.iter().enumerate() {
-        if *byte >= q {
-            return Some(i);
-        }
+    bytes.iter().position(|byte| *byte >= q)
+}
+
+/// Refuses bytes of which one is no digit, being q or more: the place is the index of the first.
+pub fn check_digits(bytes: &[u8], q: u8, layer: Layer) -> Result<(), Fault>
+    ensures { Gives (digit_tests q (layer_number layer) bytes.now) result (λ _. AllDigits q bytes.now) }
+{
+    match first_bad_digit(bytes, q) {
+        Some(place) => Err(Fault::at(Kind::BadDigit, layer, place)),
+        None => Ok(()),
     }
-    None
 }

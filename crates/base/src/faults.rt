@@ -1,6 +1,6 @@
 //! A refusal: what was wrong, which layer said so, of which coordinate, and where in the input.
 ghost use Rattle.std.specs.Prelude.{◌≡◌, Some};
-ghost use Rattle.base.specs.Faults.{kind_number, layer_number, refusal, shown_fault, stated};
+ghost use Rattle.base.specs.Faults.{kind_number, layer_number, refusal, shown_fault, stated, told};
 
 use std::error::Error;
 use std::fmt;
@@ -45,7 +45,7 @@ pub enum Layer {
     Making = 6,
 }
 
-/// The coordinate of a fault that belongs to none.
+/// The number that stands for the coordinate of a fault that belongs to none.
 pub const NO_COORDINATE: u8 = 255;
 
 /// A refusal.
@@ -53,7 +53,7 @@ pub const NO_COORDINATE: u8 = 255;
 pub struct Fault {
     pub kind: Kind,
     pub layer: Layer,
-    pub coordinate: u8,
+    pub coordinate: Option<u8>,
     pub place: usize,
 }
 
@@ -62,12 +62,36 @@ impl Fault {
     pub fn of(kind: Kind, layer: Layer) -> Fault
         ensures { stated result ≡ refusal (kind_number kind) (layer_number layer) 255 0 }
     {
+        Fault::at(kind, layer, 0)
+    }
+
+    /// A fault that belongs to a place and to no coordinate.
+    pub fn at(kind: Kind, layer: Layer, place: usize) -> Fault
+        ensures { stated result ≡ refusal (kind_number kind) (layer_number layer) 255 place }
+    {
         Fault {
             kind,
             layer,
-            coordinate: NO_COORDINATE,
-            place: 0,
+            coordinate: None,
+            place,
         }
+    }
+}
+
+/// The stated numbers of a refusal: its cause, layer, coordinate and place.
+#[derive(Clone, Copy, PartialEq, Eq, Debug)]
+pub struct Numbers(pub u8, pub u8, pub u8, pub usize);
+
+impl From<Fault> for Numbers {
+    ghost from_gives = { λ fault numbers. told numbers ≡ stated fault };
+
+    fn from(fault: Fault) -> Numbers {
+        Numbers(
+            fault.kind.number(),
+            fault.layer.number(),
+            fault.coordinate.unwrap_or(NO_COORDINATE),
+            fault.place,
+        )
     }
 }
 
@@ -93,10 +117,7 @@ impl fmt::Display for Fault {
     ghost output = { λ f. Some (shown_fault f) };
 
     fn fmt<W: fmt::Write>(&self, f: &mut fmt::Formatter<W>) -> fmt::Result {
-        let number = self.kind.number();
-        let layer = self.layer.number();
-        let coordinate = self.coordinate;
-        let place = self.place;
+        let Numbers(number, layer, coordinate, place) = Numbers::from(*self);
         write!(f, "refused {number} {layer} {coordinate} {place}")
     }
 }
