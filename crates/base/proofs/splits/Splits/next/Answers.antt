@@ -1,33 +1,27 @@
 use Rattle.std.proofs.Common.{◌≡◌, length, take, refl, ◌∙◌, arith, rules}
 use Rattle.std.proofs.lemmas.List.{get_or-take, length-take-le}
-use Rattle.std.proofs.lemmas.Bool.{true≢false, false≢true}
+use Rattle.std.proofs.lemmas.Bool.{true≢false}
 use Rattle.base.specs.Nets.{total}
 use Rattle.base.proofs.SplitOrder.{EmptyPast, none_after_all_first, none_between, steps_before, left_falls}
 use Rattle.base.proofs.SplitOrder.{Giver, stepped, stepped_steps, stepped_split, before_fits}
 use Rattle.base.proofs.splits.Splits.next.Goals as goal
 
 -- with nothing to give, all is in the first coordinate
-pub returns-then-place-eq0 : goal.returns-then-place-eq0
-returns-then-place-eq0 c =
+pub returns-in_default-clause-last : goal.returns-in_default-clause-last
+returns-in_default-clause-last c =
     let n = c.args.self.now.coordinates in
     let counts = c.args.self.now.counts in
     let size : length (take n counts) ≡ n = length-take-le n counts (omega arith) in
     let empty : EmptyPast 0 (take n counts) =
-    λ k low high. get_or-take n counts k 0 (omega arith) ∙ c.last_giver-place.ensures.empty k (omega arith) (omega arith) in
-    record {
-      same = (refl, refl);
-      last = λ _. (refl, λ other s. none_after_all_first (take n counts) other empty (omega arith));
-      after = λ e. absurd (false≢true e);
-      none_between = λ e. absurd (false≢true e);
-      falls = λ e. absurd (false≢true e);
-    }
+    λ k low high. get_or-take n counts k 0 (omega arith) ∙ c.last_giver.ensures.none c.in_default.is k low (omega arith) in
+    λ _. (refl, λ other s. none_after_all_first (take n counts) other empty (omega arith))
 
 -- the place before has less than the sum, which fits
 pub overflow_add-counts : goal.overflow_add-counts
 overflow_add-counts c =
     let n = c.args.self.now.coordinates in
     let counts = c.args.self.now.counts in
-    let place = c.last_giver-place.result in
+    let place = c.in-Some.place in
     let giver : Giver n place counts = search rules in
     omega (arith, before_fits n place counts giver)
 
@@ -36,7 +30,7 @@ pub invariant_of-self : goal.invariant_of-self
 invariant_of-self c =
     let n = c.args.self.now.coordinates in
     let counts = c.args.self.now.counts in
-    let place = c.last_giver-place.result in
+    let place = c.in-Some.place in
     let giver : Giver n place counts = search rules in
     let whole : total (take n (stepped n place counts)) ≡ c.args.self.now.sum =
     omega (arith, stepped_split n place counts giver) in
@@ -47,7 +41,7 @@ pub returns : goal.returns
 returns c =
     let n = c.args.self.now.coordinates in
     let counts = c.args.self.now.counts in
-    let place = c.last_giver-place.result in
+    let place = c.in-Some.place in
     let giver : Giver n place counts = search rules in
     let xs = take n counts in
     let ys = take n (stepped n place counts) in
