@@ -1,4 +1,4 @@
-pub mod Layouts
+pub mod Givens
 pub mod Polynomials
 pub mod Powers
 pub mod Reading

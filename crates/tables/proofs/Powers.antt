@@ -1,14 +1,12 @@
 -- Powers of a + X over a field, coefficient by coefficient: those of (a + X) p are a times each of p, plus the one below it.
 -- So the columns that are made in this way, each from the one before it, hold the entries of the Faure table.
 -- Assumes nothing.
-use Rattle.std.proofs.Common.{◌≡◌, ℕ, zero, suc, ◌+◌, ◌-◌, ◌*◌, ◌/◌, ◌%◌, ◌<◌, ◌≤◌, ◌≢◌, List, [], ◌∷◌, map, length, get_or, set, replicate, sym, refl, ap, ◌∙◌, subst, ap₂, arith, below_more}
+use Rattle.std.proofs.Common.{◌≡◌, ℕ, zero, suc, ◌+◌, ◌-◌, ◌<◌, ◌≤◌, ◌≢◌, List, [], ◌∷◌, map, length, get_or, set, replicate, sym, refl, ap, ◌∙◌, ap₂, add-one, arith, below_more}
 use Rattle.std.proofs.lemmas.List.{get_or-set_same, get_or-set_other}
 use Rattle.base.proofs.FieldAlgebra.{product_zero_right, sum_zero_right, zero_digit}
-use Rattle.base.proofs.Widths.{at_most_32_digits}
 use Rattle.base.specs.Fields.{FieldModel, FieldLaws}
-use Rattle.base.specs.Tables.{Limits, SameTable, TableModel}
-use Rattle.tables.specs.Columns.{PowerColumn, PowerColumns, Ready, columns_table, under}
-use Rattle.tables.specs.declared.faure.FaureDigits.{FaureDigits}
+use Rattle.base.specs.Tables.{Inside, SameTable, TableModel}
+use Rattle.tables.specs.Columns.{PowerColumn, PowerColumns, under}
 use Rattle.tables.specs.Faure.{faure_table, poly_power, poly_product, poly_sum}
 
 -- ---- the coefficients of 1
@@ -98,63 +96,43 @@ module _ (F : FieldModel) (laws : FieldLaws F) where
     under_power l column before zero low = refl
     under_power l column before (suc i) low = before.coefficients i (omega arith)
 
-    next_column : (l : ℕ) (column next : List ℕ) → length next ≡ 32 → PowerColumn F a l column
-        → NextUpTo F a column 32 next → PowerColumn F a (suc l) next
-    next_column l column next size before are =
-        column_from (suc l) next size
+    pub column_of_one : (column : List ℕ) → length column ≡ 32 → ((i : ℕ) → get_or column i 0 ≡ get_or (1 ∷ []) i 0) → PowerColumn F a 0 column
+    column_of_one column size are = column_from 0 column size (λ i _. are i)
+
+    pub next_column : (l : ℕ) (column next : List ℕ) → length next ≡ 32 → NextUpTo F a column 32 next → PowerColumn F a l column
+        → PowerColumn F a (l + 1) next
+    next_column l column next size are before =
+        rw (add-one l)
+        (column_from (suc l) next size
         (λ i low.
         are i low ∙ ap₂ F.sum (ap (F.product a) (before.coefficients i low)) (under_power l column before i low)
-        ∙ sym (a_plus_x_times_at a h (poly_power F (a ∷ 1 ∷ []) l) (power_digits a h l) i))
+        ∙ sym (a_plus_x_times_at a h (poly_power F (a ∷ 1 ∷ []) l) (power_digits a h l) i)))
 
-  module _ (n : ℕ) (columns : List (List ℕ)) (low : n / 32 < F.q) (before : PowerColumns F n columns) where
-    pub column_of_one : (column : List ℕ) → n % 32 ≡ 0 → length column ≡ 32 → ((i : ℕ) → get_or column i 0 ≡ get_or (1 ∷ []) i 0)
-        → PowerColumn F (n / 32) (n % 32) column
-    column_of_one column start size are =
-        subst (λ l. PowerColumn F (n / 32) l column) (sym start) (column_from (n / 32) low 0 column size (λ i _. are i))
+-- one column more
+pub columns_more : (F : FieldModel) (a l : ℕ) (columns : List (List ℕ)) (column : List ℕ) → l < length columns → PowerColumn F a l column
+    → ((i : ℕ) → i < l → PowerColumn F a i (get_or columns i [])) → (i : ℕ) → i < l + 1 → PowerColumn F a i (get_or (set columns l column) i [])
+columns_more F a l columns column room is before =
+    below_more (λ i. PowerColumn F a i (get_or (set columns l column) i [])) l
+    (λ i low. let ne : i ≢ l = omega arith in rw get_or-set_other (before i low)) (rw get_or-set_same is)
 
-    pub column_from_last : (next : List ℕ) → (n % 32 ≡ 0 → ⊥) → length next ≡ 32
-        → NextUpTo F (n / 32) (get_or columns (n - 1) []) 32 next → PowerColumn F (n / 32) (n % 32) next
-    column_from_last next later size are =
-        let l = (n - 1) % 32 in
-        let last = get_or columns (n - 1) [] in
-        let same : (n - 1) / 32 ≡ n / 32 = omega arith in
-        let more : suc l ≡ n % 32 = omega arith in
-        let x : PowerColumn F (n / 32) l last = subst (λ a. PowerColumn F a l last) same (before (n - 1) (omega arith)) in
-        subst (λ k. PowerColumn F (n / 32) k next) more (next_column (n / 32) low l last next size x are)
-
-    pub columns_with_next : (column : List ℕ) → n < length columns → PowerColumn F (n / 32) (n % 32) column
-        → PowerColumns F (n + 1) (set columns n column)
-    columns_with_next column room is =
-        below_more (λ i. PowerColumn F (i / 32) (i % 32) (get_or (set columns n column) i [])) n
-        (λ i h. let ne : i ≢ n = omega arith in rw get_or-set_other (before i h))
-        (rw get_or-set_same is)
+-- one coordinate more
+pub coordinates_more : (F : FieldModel) (a : ℕ) (all : List (List (List ℕ))) (columns : List (List ℕ)) → a < length all
+    → ((l : ℕ) → l < 32 → PowerColumn F a l (get_or columns l [])) → PowerColumns F a all → PowerColumns F (a + 1) (set all a columns)
+coordinates_more F a all columns room are before i l low =
+    below_more (λ i. (l : ℕ) → l < 32 → PowerColumn F i l (get_or (get_or (set all a columns) i []) l [])) a
+    (λ i below. let ne : i ≢ a = omega arith in rw get_or-set_other (λ l. before i l below)) (rw get_or-set_same are) i low l
 
 -- ---- the table of the columns
 
-module _ (F : FieldModel) (x : FaureDigits) (same : x.q ≡ F.q) (limits : Limits x.q x.digits x.coordinates) (are : PowerColumns F (x.coordinates * 32) x.columns) where
-  narrow : x.digits ≤ 32
-  narrow = at_most_32_digits x.q x.digits limits.0.0 limits.1.1
-
-  pub columns_ready : Ready x
-  columns_ready =
-      record {
-        narrow = narrow;
-        few = limits.2.1;
-        digits = λ i k low h. let column = are i low in rw same (column.digits k (omega (arith, column.size)));
-      }
-
-  pub table_of_columns : (t : TableModel) → SameTable t (columns_table x) → SameTable t (faure_table F x.digits x.coordinates)
-  table_of_columns t table =
-      record {
-        q = table.q ∙ same;
-        digits = table.digits;
-        coordinates = table.coordinates;
-        entry = λ j k l inside.
-            let i = j * 32 + l in
-            let low : l < 32 = omega (arith, narrow, table.digits) in
-            let coordinate : i / 32 ≡ j = omega arith in
-            let column : i % 32 ≡ l = omega arith in
-            table.entry j k l inside
-            ∙ (are i (omega (arith, table.coordinates))).coefficients (k - 1) (omega (arith, narrow, table.digits))
-            ∙ ap₂ (λ a e. get_or (poly_power F (a ∷ 1 ∷ []) e) (k - 1) 0) coordinate column;
-      }
+pub table_of_columns : (F : FieldModel) (M s : ℕ) (columns : List (List (List ℕ))) (t : TableModel) → M ≤ 32 → PowerColumns F s columns
+    → t.q ≡ F.q → t.digits ≡ M → t.coordinates ≡ s
+    → ((j k l : ℕ) → Inside M s j k l → t.entry j k l ≡ get_or (get_or (get_or columns j []) l []) (k - 1) 0) → SameTable t (faure_table F M s)
+table_of_columns F M s columns t narrow are q digits coordinates entries =
+    record {
+      q = q;
+      digits = digits;
+      coordinates = coordinates;
+      entry = λ j k l inside.
+          let within : Inside M s j k l = rw (digits, coordinates) at inside in
+          entries j k l within ∙ (are j l within.coordinate (omega (arith, within.column))).coefficients (k - 1) (omega (arith, within.row_least, within.row_most));
+    }

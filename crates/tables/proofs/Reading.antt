@@ -12,7 +12,7 @@ use Rattle.tables.specs.declared.record.Record.{Record}
 use Rattle.tables.specs.Directions.{Numbers, record_tests}
 use Rattle.tables.specs.Reader.{Next, Stands, Whole, record_at}
 use Rattle.tables.specs.Record.{Layout}
-use Rattle.tables.specs.Sobol.{NumbersUpTo, ReadAll, record_of, records_tests}
+use Rattle.tables.specs.Sobol.{NumbersUpTo, record_of, records_tests}
 
 -- the tests of the record of coordinate j
 abbrev pub tests_of : List ℕ → ℕ → List Test
@@ -72,31 +72,32 @@ module _ (list here : List ℕ) (n place after : ℕ) (all : List (List ℕ)) (s
     unfolding told
     refused_record x h = refused_here x told.0 (as_coordinate (λ tests. Refused tests x) h)
 
-    pub read_more : (m : ℕ) (ms : List ℕ) → m ≡ n + 1 → Clean (record_tests r.bytes.now r.coordinate r.place)
-        → Numbers r.bytes.now ms → ReadUpTo list m after (set all n ms)
+    pub read_more : (ms : List ℕ) → Clean (record_tests r.bytes.now r.coordinate r.place) → Numbers r.bytes.now ms
+        → ReadUpTo list (after / 20) after (set all r.coordinate ms)
     unfolding told
-    read_more m ms more clean numbers =
+    read_more ms clean numbers =
         let room : n < length all = omega (arith, told.0.0, so_far.next, so_far.rows) in
-        record {
+        let at : r.coordinate ≡ n = told.3 ∙ omega (arith, so_far.next) in
+        let more : after / 20 ≡ n + 1 = omega (arith, told.5, so_far.next) in
+        rw (at, more)
+        (record {
           next = omega (arith, told.5, so_far.next);
           within = omega (arith, told.5, told.0.1);
           rows = length-set all n ms ∙ so_far.rows;
-          clean = λ j low.
-              below_more (λ i. Clean (tests_of list i)) n so_far.clean (as_coordinate Clean clean) j (omega arith);
-          numbers = λ j low.
-              below_more (λ i. Numbers (record_of list i) (get_or (set all n ms) i [])) n
+          clean = below_more (λ i. Clean (tests_of list i)) n so_far.clean (as_coordinate Clean clean);
+          numbers = below_more (λ i. Numbers (record_of list i) (get_or (set all n ms) i [])) n
               (λ i h. let ne : i ≢ n = omega arith in rw get_or-set_other (so_far.numbers i h))
-              (rw get_or-set_same (subst (λ b. Numbers b ms) record_is numbers)) j (omega arith);
-        }
+              (rw get_or-set_same (subst (λ b. Numbers b ms) record_is numbers));
+        })
 
   pub read_all : (o : Option Record) → Whole list → length list ≤ 160 → ((r : Record) → o ≡ Some r → ⊥) → Next here place (Ok o) after
-      → Clean (records_tests list) × ReadAll list (record { coordinates = n; numbers = all })
+      → Clean (records_tests list) × NumbersUpTo list (length list / 20) all
   read_all None whole few none answer =
       let h : Next list place (Ok None) after = subst (λ xs. Next xs place (Ok None) after) same answer in
       let end : n ≡ length list / 20 =
       ⊎_elim (λ low. absurd (h.0 (omega (arith, so_far.next), omega (arith, so_far.next))))
       (λ past. omega (arith, so_far.next, so_far.within)) (cases_lt n (length list / 20)) in (
         clean_in_turn (tests_of list) 0 (length list / 20) (λ i low high. so_far.clean i (omega arith)),
-        record { count = end; numbers = subst (λ k. NumbersUpTo list k all) end so_far.numbers },
+        subst (λ k. NumbersUpTo list k all) end so_far.numbers,
       )
   read_all (Some r) whole few none answer = absurd (none r refl)

@@ -7,9 +7,9 @@ use lib.Bits.{bit_and, bit_xor, and_mask, xor_lt, xor_zero_r}
 use Rattle.std.proofs.lemmas.List.{get_or-set_same, get_or-set_other}
 use Rattle.std.proofs.lemmas.Bool.Decides.{nat_tests}
 use Rattle.tables.specs.Directions.{coefficient, terms, recurrence, Directions, following, newest, direction, Numbers}
-use Rattle.tables.specs.Parts.{TakenApart}
-use Rattle.tables.specs.Record.{degree, polynomial, given, initial}
-use Rattle.tables.specs.declared.record.Parts.{Parts}
+use Rattle.tables.specs.Given.{GivenBy}
+use Rattle.tables.specs.Record.{degree, polynomial, initial}
+use Rattle.tables.specs.declared.record.Given.{Given}
 
 -- ---- the sum
 
@@ -133,9 +133,10 @@ holds_with_next d p first i ms x l u is small before =
     (λ k b a. let other : k - 1 ≢ i - 1 = omega arith in rw get_or-set_other (before k b a))
     (λ a. let within : i - 1 < length ms = omega arith in rw get_or-set_same (is, small))
 
-pub numbers_from_parts : (bytes : List ℕ) (p : Parts) (ms : List ℕ) → TakenApart bytes p
-    → ((i : ℕ) → 1 ≤ i → i ≤ 32 → get_or ms (i - 1) 0 ≡ direction p.degree p.polynomial (given p.numbers.now) i)
+pub numbers_from_given : (bytes : List ℕ) (g : Given) (ms : List ℕ) → GivenBy bytes g
+    → ((i : ℕ) → 1 ≤ i → i ≤ 32 → get_or ms (i - 1) 0 ≡ direction g.polynomial.degree g.polynomial.bits (λ k. get_or g.numbers (k - 1) 0) i)
     → Numbers bytes ms
-numbers_from_parts bytes p ms apart are =
-    let are' = rw (apart.degree_is, apart.polynomial_is, apart.numbers_are) at are in
+numbers_from_given bytes g ms is are =
+    let first : (λ k. get_or g.numbers (k - 1) 0) ≡ initial bytes = λ x k. is.numbers_are k x in
+    let are' = rw (is.degree_is, is.polynomial_is, first) at are in
     record { are = are'; obey = obeys_if_direction (degree bytes) (polynomial bytes) (initial bytes) 32 (λ i. get_or ms (i - 1) 0) are' }

@@ -1,43 +1,47 @@
--- A table spread over its places: one place more, and what stands where. Assumes nothing.
-use Rattle.std.proofs.Common.{◌≡◌, ℕ, ◌+◌, ◌%◌, ◌<◌, ◌≤◌, true, false, cond, ◌≢◌, List, length, get_or, set, sym, ap, ◌∙◌, ap₂, ⊎_elim, arith, below_more}
-use Rattle.std.proofs.lemmas.List.{get_or-set_same, get_or-set_other, get_or_past}
-use Rattle.std.proofs.lemmas.Bool.{and_from, cases_lt, lt-ltb}
-use Rattle.base.specs.Tables.{Inside, TableModel}
+-- Digits spread over the places of a table: one place more, and what stands where. Assumes nothing.
+use Rattle.std.proofs.Common.{◌≡◌, ℕ, ◌+◌, ◌%◌, ◌<◌, ◌≤◌, true, false, ◌≢◌, List, length, get_or, set, replicate, sym, ap, ◌∙◌, subst, ⊎_elim, arith, below_more}
+use Rattle.std.proofs.lemmas.List.{get_or-replicate, get_or-set_same, get_or-set_other, get_or_past, length-replicate, length-set}
+use Rattle.std.proofs.lemmas.Bool.{and_from, cases_eq, cases_lt, lt-ltb}
+use Rattle.base.specs.Tables.{Inside}
 use Rattle.tables.specs.Places.{place, coordinate_at, row_at, column_at, used}
-use Rattle.tables.specs.Table.{Spread}
 
--- what stands at a place of a spread table
-abbrev pub spread_at : TableModel → ℕ → ℕ
-spread_at t i = cond (used t.digits t.coordinates i) (t.entry (coordinate_at i) (row_at i) (column_at i)) 0
+-- the places below n hold digits that have P, as far as a table of M digits and s coordinates uses them, and the others hold 0
+pub record Spread (q M s : ℕ) (P : ℕ → ℕ → Type 0) (n : ℕ) (entries : List ℕ) : Type 0 where
+  pub size : length entries ≡ 8192
+  pub small : (i : ℕ) → get_or entries i 0 < q
+  pub spare : (i : ℕ) → used M s i ≡ false → get_or entries i 0 ≡ 0
+  pub given : (i : ℕ) → i < n → used M s i ≡ true → P i (get_or entries i 0)
 
--- a digit of the table, at a place that it uses
-pub value_used : (t : TableModel) (i j k l v : ℕ) → used t.digits t.coordinates i ≡ true → j ≡ coordinate_at i
-    → k ≡ row_at i → l ≡ column_at i → v ≡ t.entry j k l → v ≡ spread_at t i
-value_used t i j k l v yes' ej ek el ev =
-    ev ∙ ap (λ x. t.entry x k l) ej ∙ ap₂ (t.entry (coordinate_at i)) ek el
-    ∙ sym (ap (λ b. cond b (t.entry (coordinate_at i) (row_at i) (column_at i)) 0) yes')
+zeros_at : (n i : ℕ) → get_or {A = ℕ} (replicate n 0) i 0 ≡ 0
+zeros_at n i =
+    ⊎_elim (λ low. get_or-replicate n i 0 0 low) (λ past. get_or_past (replicate n 0) i 0 (omega (arith, length-replicate {A = ℕ} n 0))) (cases_lt i n)
 
--- 0, at a place that it does not use
-pub value_spare : (t : TableModel) (i v : ℕ) → used t.digits t.coordinates i ≡ false → v ≡ 0 → v ≡ spread_at t i
-value_spare t i v none ev = ev ∙ sym (ap (λ b. cond b (t.entry (coordinate_at i) (row_at i) (column_at i)) 0) none)
+pub spread_none : (q M s : ℕ) (P : ℕ → ℕ → Type 0) → 0 < q → Spread q M s P 0 (replicate 8192 0)
+spread_none q M s P some =
+    record {
+      size = length-replicate {A = ℕ} 8192 0;
+      small = λ i. rw (zeros_at 8192 i) some;
+      spare = λ i _. zeros_at 8192 i;
+      given = λ i low. absurd (omega arith);
+    }
 
-pub spread_more : (t : TableModel) (n : ℕ) (entries : List ℕ) (v : ℕ) → n < length entries → v ≡ spread_at t n → v < t.q
-    → Spread t n entries → Spread t (n + 1) (set entries n v)
-spread_more t n entries v h is small before =
-    below_more (λ i. (get_or (set entries n v) i 0 ≡ spread_at t i) × (get_or (set entries n v) i 0 < t.q)) n
-    (λ i low. let ne : i ≢ n = omega arith in rw get_or-set_other (before i low))
-    (rw get_or-set_same (is, small))
-
-module _ (t : TableModel) (n : ℕ) (entries : List ℕ) (size : length entries ≡ n) (spread : Spread t n entries) where
-  pub spread_small : 0 < t.q → (i : ℕ) → get_or entries i 0 < t.q
-  spread_small some i =
-      ⊎_elim (λ low. (spread i low).1) (λ past. rw (get_or_past entries i 0 (omega arith)) some) (cases_lt i n)
-
-  pub spread_spare : (i : ℕ) → used t.digits t.coordinates i ≡ false → get_or entries i 0 ≡ 0
-  spread_spare i none =
-      ⊎_elim
-      (λ low. (spread i low).0 ∙ ap (λ b. cond b (t.entry (coordinate_at i) (row_at i) (column_at i)) 0) none)
-      (λ past. get_or_past entries i 0 (omega arith)) (cases_lt i n)
+-- one place more, with a digit that has P where the table uses the place, and 0 where it does not
+pub spread_more : (q M s : ℕ) (P : ℕ → ℕ → Type 0) (n : ℕ) (entries : List ℕ) (v : ℕ) → n < length entries → v < q
+    → (used M s n ≡ true → P n v) → (used M s n ≡ false → v ≡ 0) → Spread q M s P n entries → Spread q M s P (n + 1) (set entries n v)
+spread_more q M s P n entries v room low has none so_far =
+    let other : (i : ℕ) → i ≢ n → get_or (set entries n v) i 0 ≡ get_or entries i 0 = λ i ne. get_or-set_other entries n i v 0 ne in
+    let same : get_or (set entries n v) n 0 ≡ v = get_or-set_same entries n v 0 room in
+    record {
+      size = length-set entries n v ∙ so_far.size;
+      small = λ i.
+          ⊎_elim (λ e. subst (λ k. get_or (set entries n v) k 0 < q) (sym e) (rw same low)) (λ ne. rw (other i ne) (so_far.small i)) (cases_eq i n);
+      spare = λ i spare.
+          ⊎_elim (λ e. ap (λ k. get_or (set entries n v) k 0) e ∙ same ∙ none (ap (used M s) (sym e) ∙ spare))
+          (λ ne. other i ne ∙ so_far.spare i spare) (cases_eq i n);
+      given = below_more (λ i. used M s i ≡ true → P i (get_or (set entries n v) i 0)) n
+          (λ i below used. let ne : i ≢ n = omega arith in rw (other i ne) (so_far.given i below used))
+          (λ used. rw same (has used));
+    }
 
 -- the place of a row and a column is one of the table's
 module _ (M s j k l : ℕ) (narrow : M ≤ 32) (few : s ≤ 8) (inside : Inside M s j k l) where
@@ -57,14 +61,3 @@ module _ (M s j k l : ℕ) (narrow : M ≤ 32) (few : s ≤ 8) (inside : Inside 
   place_used =
       and_from _ _ (lt-ltb (coordinate_at (place j k l)) s (omega arith))
       (and_from _ _ (lt-ltb (place j k l % 32) M (omega arith)) (lt-ltb (column_at (place j k l)) M (rw place_column inside.column)))
-
-pub spread_entry : (t : TableModel) (entries : List ℕ) → t.digits ≤ 32 → t.coordinates ≤ 8 → Spread t 8192 entries
-    → (j k l : ℕ) → Inside t.digits t.coordinates j k l → get_or entries (place j k l) 0 ≡ t.entry j k l
-spread_entry t entries narrow few spread j k l inside =
-    let M = t.digits in
-    let s = t.coordinates in
-    (spread (place j k l) (place_below M s j k l narrow few inside)).0
-    ∙ ap (λ b. cond b (t.entry (coordinate_at (place j k l)) (row_at (place j k l)) (column_at (place j k l))) 0)
-    (place_used M s j k l narrow few inside)
-    ∙ ap (λ x. t.entry x (row_at (place j k l)) (column_at (place j k l))) (place_coordinate M s j k l narrow few inside)
-    ∙ ap₂ (t.entry j) (place_row M s j k l narrow few inside) (place_column M s j k l narrow few inside)

@@ -1,6 +1,7 @@
 pub mod Columns
 pub mod Directions
 pub mod Faure
+pub mod Given
 pub mod Parts
 pub mod Places
 pub mod Primitive

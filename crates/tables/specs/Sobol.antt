@@ -1,11 +1,10 @@
 -- Sobol' tables. Assumes nothing.
-use Rattle.std.specs.Prelude.{◌≡◌, ℕ, ◌+◌, ◌-◌, ◌*◌, ◌/◌, ◌%◌, ◌^◌, ◌<◌, cond, List, [], ◌∷◌, ◌++◌, length, nat_le, slice_index, slice_index_or}
+use Rattle.std.specs.Prelude.{ℕ, ◌+◌, ◌-◌, ◌*◌, ◌/◌, ◌%◌, ◌^◌, ◌<◌, cond, List, [], ◌∷◌, ◌++◌, length, nat_le, slice_index_or}
 use Rattle.base.specs.Faults.{refusal}
 use Rattle.base.specs.Tables.{DigitLimits, TableModel}
 use Rattle.base.specs.Tests.{Test, test, in_turn}
 use Rattle.tables.specs.Directions.{direction_of, Numbers, record_tests}
 use Rattle.tables.specs.Reader.{list_tests, record_at}
-use Rattle.tables.specs.declared.sobol.AllNumbers.{AllNumbers}
 
 -- the digit in row k and column l: the bit of m_(l+1) at 2^(l+1-k), and 0 if k exceeds l + 1
 abbrev pub sobol_digit : (ℕ → ℕ) → ℕ → ℕ → ℕ
@@ -31,13 +30,3 @@ sobol_tests list M = list_tests list ++ test (DigitLimits 2 M → ⊥) (refusal 
 -- the direction numbers of the first n records
 abbrev pub NumbersUpTo : List ℕ → ℕ → List (List ℕ) → Type 0
 NumbersUpTo list n all = (j : ℕ) → j < n → Numbers (record_of list j) (slice_index_or all j [])
-
--- the direction numbers of every record of a list
-pub record ReadAll (list : List ℕ) (a : AllNumbers) : Type 0 where
-  pub count : a.coordinates ≡ length list / 20
-  pub numbers : NumbersUpTo list (length list / 20) a.numbers
-
--- the table of M digits that some direction numbers give
-abbrev pub numbers_table : ℕ → AllNumbers → TableModel
-numbers_table M a =
-    record { q = 2; digits = M; coordinates = a.coordinates; entry = λ j k l. sobol_digit (λ i. slice_index (slice_index_or a.numbers j []) (i - 1)) k l }

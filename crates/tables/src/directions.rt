@@ -1,37 +1,25 @@
 //! The direction numbers of a record, by Sobol's recurrence.
-ghost use Rattle.std.specs.Prelude.{◌≡◌, ℕ, ◌-◌, ◌^◌, ◌<◌, ◌≤◌, length, Decides, slice_index};
+ghost use Rattle.std.specs.Prelude.{◌≡◌, ℕ, ◌-◌, ◌*◌, ◌%◌, ◌^◌, ◌<◌, ◌≤◌, ◌↔◌, length, IsTrue, slice_index};
 ghost use Rattle.base.specs.Tests.{Gives};
-ghost use Rattle.tables.specs.Directions.{Numbers, Admissible, direction, record_tests, recurrence};
-ghost use Rattle.tables.specs.Record.{given};
+ghost use Rattle.tables.specs.Directions.{Numbers, direction, record_tests, recurrence};
+ghost use Rattle.tables.specs.Given.{OddAndSmall};
 
-use crate::primitive::is_primitive;
-use crate::record::{Record, number_at};
+use crate::polynomial::Polynomial;
+use crate::record::{Given, Record};
 use base::faults::{Fault, Kind, Layer};
 
-// Whether each given number m_i is odd and below 2^i.
-fn are_admissible(numbers: &[u8], degree: u8) -> bool
-    requires { (length numbers.now ≡ 16) × (degree ≤ 8) }
-    ensures { Decides result (Admissible degree (given numbers.now)) }
-{
-    for i in 1..degree as usize + 1 {
-        let m = number_at(numbers, i);
-        if m % 2 == 0 || m >= 1 << i {
-            return false;
-        }
-    }
-    true
-}
-
 // The number m_i by the recurrence, from those before it; m_1 stands first.
-fn next_number(numbers: &[u32; 32], i: usize, degree: usize, polynomial: u16) -> u32
-    requires le_degree { (1 ≤ degree) × ((degree ≤ 8) × ((degree < i) × (i ≤ 32))) }
-    requires by_index { (k : ℕ) → 1 ≤ k → k < i → slice_index numbers.now (k - 1) < 2 ^ k }
-    ensures value { result ≡ recurrence degree polynomial (λ k. slice_index numbers.now (i - k - 1)) }
+fn next_number(numbers: &[u32; 32], i: usize, polynomial: Polynomial) -> u32
+    requires later { (1 ≤ polynomial.degree) × ((polynomial.degree < i) × (i ≤ 32)) }
+    requires small { (k : ℕ) → 1 ≤ k → k < i → slice_index numbers.now (k - 1) < 2 ^ k }
+    ensures value { result ≡ recurrence polynomial.degree polynomial.bits (λ k. slice_index numbers.now (i - k - 1)) }
     ensures bound { result < 2 ^ i }
 {
+    let degree = polynomial.degree as usize;
     let mut sum = 0;
+    // k is the recurrence's own index, of a coefficient and of m_(i-k): a zip with the numbers from behind hides both.
     for k in 1..degree {
-        if (polynomial >> (degree - k)) & 1 == 1 {
+        if (polynomial.bits >> (degree - k)) & 1 == 1 {
             sum ^= numbers[i - k - 1] << k;
         }
     }
@@ -39,40 +27,59 @@ fn next_number(numbers: &[u32; 32], i: usize, degree: usize, polynomial: u16) ->
     sum ^ ((oldest << degree) ^ oldest)
 }
 
-// The direction numbers m_1 to m_32, from the given ones on.
-fn extend(degree: u8, polynomial: u16, first: &[u8]) -> [u32; 32]
-    requires { (length first.now ≡ 16) × ((degree ≤ 8) × (Admissible degree (given first.now))) }
-    ensures { (i : ℕ) → 1 ≤ i → i ≤ 32 → slice_index result (i - 1) ≡ direction degree polynomial (given first.now) i }
+// Whether each number is odd, the first below 2, and each bound twice the one before.
+fn are_odd_and_small(numbers: &[u16]) -> bool
+    requires { length numbers.now ≤ 8 }
+    ensures { IsTrue result ↔ ((k : ℕ) → k < length numbers.now → (slice_index numbers.now k % 2 ≡ 1) × (slice_index numbers.now k < 2 * 2 ^ k)) }
 {
-    let mut numbers = [1u32; 32];
-    if degree == 0 {
-        return numbers;
-    }
-    for i in 1..33 {
-        numbers[i - 1] = if i <= degree as usize {
-            u32::from(number_at(first, i))
-        } else {
-            next_number(&numbers, i, degree as usize, polynomial)
-        };
-    }
     numbers
+        .iter()
+        .enumerate()
+        .all(|(k, m)| *m % 2 == 1 && *m < 2 << k)
+}
+
+impl Given {
+    // Whether each given number m_i is odd and below 2^i.
+    fn is_admissible(&self) -> bool
+        ensures { IsTrue result ↔ OddAndSmall self.now }
+    {
+        are_odd_and_small(&self.numbers[..self.polynomial.degree as usize])
+    }
+
+    // The direction numbers m_1 to m_32, from the given ones on.
+    fn extend(&self) -> [u32; 32]
+        requires { OddAndSmall self.now }
+        ensures { (i : ℕ) → 1 ≤ i → i ≤ 32 → slice_index result (i - 1) ≡ direction self.now.polynomial.degree self.now.polynomial.bits (λ k. slice_index self.now.numbers (k - 1)) i }
+    {
+        let degree = self.polynomial.degree as usize;
+        let mut numbers = [1u32; 32];
+        if degree == 0 {
+            return numbers;
+        }
+        // Each number is read off those before it, so no iterator can hold the array while one is written.
+        for i in 1..33 {
+            numbers[i - 1] = if i <= degree {
+                u32::from(self.numbers[i - 1])
+            } else {
+                next_number(&numbers, i, self.polynomial)
+            };
+        }
+        numbers
+    }
 }
 
 /// The direction numbers m_1 to m_32 of a record, m_1 first.
 pub fn direction_numbers(record: &Record) -> Result<[u32; 32], Fault>
     ensures { Gives (record_tests «record».now.bytes.now «record».now.coordinate «record».now.place) result (Numbers «record».now.bytes.now) }
 {
-    if !record.keeps_layout() {
-        return Err(record.fault(Kind::BadLayout, Layer::Reader));
-    }
-    let Some(parts) = record.parts() else {
+    let Some(given) = record.given() else {
         return Err(record.fault(Kind::BadLayout, Layer::Reader));
     };
-    if parts.degree > 0 && !is_primitive(parts.degree, parts.polynomial) {
+    if given.polynomial.degree > 0 && !given.polynomial.is_primitive() {
         return Err(record.fault(Kind::NotPrimitive, Layer::Tables));
     }
-    if !are_admissible(parts.numbers, parts.degree) {
+    if !given.is_admissible() {
         return Err(record.fault(Kind::BadDirection, Layer::Tables));
     }
-    Ok(extend(parts.degree, parts.polynomial, parts.numbers))
+    Ok(given.extend())
 }

@@ -1,45 +1,26 @@
 //! Faure tables, over any field.
-ghost use Rattle.std.specs.Prelude.{◌≡◌, ℕ, ◌*◌, ◌<◌, ◌≤◌, [], ◌∷◌, length, slice_index};
+ghost use Rattle.std.specs.Prelude.{◌≡◌, ℕ, ◌<◌, ◌≤◌, [], ◌∷◌, length, slice_index, slice_index_or};
 ghost use Rattle.base.specs.Tables.{SameTable};
 ghost use Rattle.base.specs.Tests.{Gives};
-ghost use Rattle.tables.specs.Columns.{PowerColumns, Ready, columns_table, under};
+ghost use Rattle.tables.specs.Columns.{PowerColumn, PowerColumns, under};
 ghost use Rattle.tables.specs.Faure.{faure_table, faure_tests};
 ghost use Rattle.tables.specs.Table.{model};
 
 use crate::table::Table;
-use crate::table::digits::DigitRule;
 use base::faults::{Fault, Kind, Layer};
-use base::limits::keep_limits;
+use base::limits::Shape;
 use fields::field::Field;
 
-// The columns of a Faure table, 32 for each coordinate.
-#[derive(Clone, Copy)]
-pub(crate) struct FaureDigits {
-    q: u8,
-    digits: u8,
-    coordinates: u8,
-    columns: [[u8; 32]; 256],
-}
-
-impl DigitRule for FaureDigits {
-    ghost means = { columns_table };
-
-    ghost ready = { Ready };
-
-    fn digit(&self, coordinate: usize, row: usize, column: usize) -> u8 {
-        self.columns[coordinate * 32 + column][row - 1]
-    }
-}
-
 // The coefficients of (a + X) p, from those of p: a times each, plus the one below it.
-fn times_a_plus_x<F: Field>(field: &F, a: u8, column: &[u8; 32]) -> [u8; 32]
-    ensures { (i : ℕ) → i < 32 → slice_index result i ≡ (F.Field.means field.now).sum ((F.Field.means field.now).product a (slice_index column.now i)) (under column.now i) }
+fn times_a_plus_x<F: Field>(field: &F, a: u8, column: [u8; 32]) -> [u8; 32]
+    ensures { (i : ℕ) → i < 32 → slice_index result i ≡ (F.Field.means field.now).sum ((F.Field.means field.now).product a (slice_index column i)) (under column i) }
 {
-    let mut next = [0u8; 32];
+    let mut next = column;
     let mut below = 0;
-    for i in 0..32 {
-        next[i] = field.add(field.mul(a, column[i]), below);
-        below = column[i];
+    for coefficient in next.iter_mut() {
+        let here = *coefficient;
+        *coefficient = field.add(field.mul(a, here), below);
+        below = here;
     }
     next
 }
@@ -54,18 +35,29 @@ fn one() -> [u8; 32]
     column
 }
 
-// The columns of every coordinate a: the coefficients of the powers of a + X, each from the one before it.
-fn all_columns<F: Field>(field: &F, coordinates: u8) -> [[u8; 32]; 256]
-    requires { (coordinates ≤ 8) × (coordinates ≤ (F.Field.means field.now).q) }
-    ensures { PowerColumns (F.Field.means field.now) (coordinates * 32) result }
+// The coefficients of the powers of a + X, each from those of the one before it.
+fn powers<F: Field>(field: &F, a: u8) -> [[u8; 32]; 32]
+    requires { a < (F.Field.means field.now).q }
+    ensures { (l : ℕ) → l < 32 → PowerColumn (F.Field.means field.now) a l (slice_index_or result l []) }
 {
-    let mut columns = [[0u8; 32]; 256];
-    for n in 0..coordinates as usize * 32 {
-        columns[n] = if n % 32 == 0 {
-            one()
-        } else {
-            times_a_plus_x(field, (n / 32) as u8, &columns[n - 1])
-        };
+    let mut columns = [[0u8; 32]; 32];
+    let mut power = one();
+    for column in columns.iter_mut() {
+        *column = power;
+        let next = times_a_plus_x(field, a, power);
+        power = next;
+    }
+    columns
+}
+
+// The columns of every coordinate a: the powers of a + X.
+fn all_columns<F: Field>(field: &F, coordinates: u8) -> [[[u8; 32]; 32]; 8]
+    requires { (coordinates ≤ 8) × (coordinates ≤ (F.Field.means field.now).q) }
+    ensures { PowerColumns (F.Field.means field.now) coordinates result }
+{
+    let mut columns = [[[0u8; 32]; 32]; 8];
+    for a in 0..coordinates {
+        columns[a as usize] = powers(field, a);
     }
     columns
 }
@@ -75,18 +67,12 @@ pub fn faure_table<F: Field>(field: &F, digits: u8, coordinates: u8) -> Result<T
     ensures { Gives (faure_tests (F.Field.means field.now) digits coordinates) result (λ t. SameTable (model t) (faure_table (F.Field.means field.now) digits coordinates)) }
 {
     let q = field.q();
-    if !keep_limits(q, digits, coordinates) {
-        return Err(Fault::of(Kind::OutOfRange, Layer::Tables));
-    }
+    let shape = Shape::new(q, digits, coordinates, Layer::Tables)?;
     if coordinates > q {
         return Err(Fault::of(Kind::Mismatch, Layer::Tables));
     }
     let columns = all_columns(field, coordinates);
-    let rule = FaureDigits {
-        q,
-        digits,
-        coordinates,
-        columns,
-    };
-    Ok(Table::build(q, digits, coordinates, &rule))
+    Ok(Table::build(shape, |coordinate, row, column| {
+        columns[coordinate][column][row - 1]
+    }))
 }

@@ -3,7 +3,7 @@
 
 pub mod directions;
 pub mod faure;
-mod primitive;
+mod polynomial;
 pub mod raw;
 pub mod reader;
 pub mod record;

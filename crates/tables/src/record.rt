@@ -1,9 +1,11 @@
 //! One record of a direction list, its parts, and the test of its layout.
-ghost use Rattle.std.specs.Prelude.{◌≡◌, ◌<◌, ◌≤◌, length, Decides, MatchOption};
+ghost use Rattle.std.specs.Prelude.{◌≡◌, ℕ, ◌*◌, ◌<◌, ◌↔◌, length, slice_index, IsTrue, MatchOption};
 ghost use Rattle.base.specs.Faults.{kind_number, layer_number, refusal, stated};
-ghost use Rattle.tables.specs.Record.{HeadOf, TailOf, Layout, given};
+ghost use Rattle.tables.specs.Record.{Layout, pair};
+ghost use Rattle.tables.specs.Given.{GivenBy};
 ghost use Rattle.tables.specs.Parts.{TakenApart};
 
+use crate::polynomial::Polynomial;
 use base::faults::{Fault, Kind, Layer};
 
 /// The bytes in a record.
@@ -24,6 +26,13 @@ pub struct Parts<'a> {
     pub zero: u8,
     pub polynomial: u16,
     pub numbers: &'a [u8],
+}
+
+/// What a record that keeps the layout gives: its polynomial, and the numbers m_1 to m_8.
+#[derive(Clone, Copy)]
+pub(crate) struct Given {
+    pub(crate) polynomial: Polynomial,
+    pub(crate) numbers: [u16; 8],
 }
 
 impl<'a> Record<'a> {
@@ -49,51 +58,53 @@ impl<'a> Record<'a> {
         Fault {
             kind,
             layer,
-            coordinate: self.coordinate,
+            coordinate: Some(self.coordinate),
             place: self.place,
         }
     }
 
+    // What the record gives; none where it does not keep the layout.
+    pub(crate) fn given(&self) -> Option<Given>
+        ensures { MatchOption result (Layout self.now.bytes.now → ⊥) (GivenBy self.now.bytes.now) }
+    {
+        let parts = self.parts()?;
+        let numbers = numbers_in(parts.numbers.try_into().ok()?);
+        let Parts {
+            degree,
+            zero,
+            polynomial: bits,
+            ..
+        } = parts;
+        if degree > 8 || zero != 0 || bits >> degree != 1 || bits % 2 != 1 {
+            return None;
+        }
+        if !are_zero(&numbers[degree as usize..]) {
+            return None;
+        }
+        Some(Given {
+            polynomial: Polynomial { degree, bits },
+            numbers,
+        })
+    }
+
     /// Whether the record keeps the layout.
     pub fn keeps_layout(&self) -> bool
-        ensures { Decides result (Layout self.now.bytes.now) }
+        ensures { IsTrue result ↔ Layout self.now.bytes.now }
     {
-        if self.bytes.len() != RECORD_BYTES {
-            return false;
-        }
-        let Some(parts) = self.parts() else {
-            return false;
-        };
-        head_is_sound(parts.degree, parts.zero, parts.polynomial)
-            && rest_is_zero(parts.numbers, parts.degree)
+        self.given().is_some()
     }
 }
 
-// The number m_i among the numbers of a record.
-pub(crate) fn number_at(numbers: &[u8], i: usize) -> u16
-    requires { (length numbers.now ≡ 16) × ((1 ≤ i) × (i ≤ 8)) }
-    ensures { result ≡ given numbers.now i }
+// The numbers in the bytes, low byte first.
+fn numbers_in(bytes: &[u8; 16]) -> [u16; 8]
+    ensures { (k : ℕ) → k < 8 → slice_index result k ≡ pair bytes.now (2 * k) }
 {
-    let low = 2 * (i - 1);
-    u16::from_le_bytes([numbers[low], numbers[low + 1]])
+    std::array::from_fn(|i| u16::from_le_bytes([bytes[2 * i], bytes[2 * i + 1]]))
 }
 
-// Whether the numbers past m_degree are 0.
-fn rest_is_zero(numbers: &[u8], degree: u8) -> bool
-    requires { length numbers.now ≡ 16 }
-    ensures { Decides result (TailOf degree numbers.now) }
+// Whether each number is 0.
+fn are_zero(numbers: &[u16]) -> bool
+    ensures { IsTrue result ↔ ((k : ℕ) → k < length numbers.now → slice_index numbers.now k ≡ 0) }
 {
-    for i in degree as usize + 1..9 {
-        if number_at(numbers, i) != 0 {
-            return false;
-        }
-    }
-    true
-}
-
-// Whether degree, byte 1 and polynomial are those of a record.
-fn head_is_sound(degree: u8, zero: u8, polynomial: u16) -> bool
-    ensures { Decides result (HeadOf degree zero polynomial) }
-{
-    degree <= 8 && zero == 0 && polynomial >> degree == 1 && polynomial % 2 == 1
+    numbers.iter().all(|m| *m == 0)
 }

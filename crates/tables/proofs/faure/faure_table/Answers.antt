@@ -1,24 +1,22 @@
-use Rattle.std.proofs.Common.{refl, rules}
-use Rattle.tables.specs.declared.faure.FaureDigits.{FaureDigits}
+use Rattle.std.proofs.Common.{ap, ◌∙◌, rules}
+use Rattle.base.specs.Tables.{Inside}
 use Rattle.tables.specs.Table.{model}
-use Rattle.tables.proofs.Powers.{columns_ready, table_of_columns}
+use Rattle.tables.proofs.Powers.{table_of_columns}
 use Rattle.tables.proofs.faure.faure_table.Goals as goal
-
-pub build-requires : goal.build-requires
-build-requires g c =
-    let F = g.F.Field.means c.args.field.now in
-    let limits = c.if-not-keep_limits.ensures.0 refl in
-    record {
-      limits = limits;
-      works = columns_ready F _ c.q-q.ensures limits c.all_columns-columns.ensures;
-      sizes = (refl, refl, refl);
-    }
 
 pub returns : goal.returns
 returns g c =
     let F = g.F.Field.means c.args.field.now in
-    let x : FaureDigits = record { q = c.q-q.result; digits = c.args.digits; coordinates = c.args.coordinates; columns = c.all_columns-columns.result } in
-    let limits = c.if-not-keep_limits.ensures.0 refl in (
-      (λ out. out (rw c.q-q.ensures at limits), search rules),
-      table_of_columns F x c.q-q.ensures limits c.all_columns-columns.ensures (model c.build.result) c.build.ensures,
+    let x = c.in_ok-shape.ensures in
+    let shape = c.in_ok-shape.shape in
+    let same = c.build.ensures.shape in
+    let columns = c.all_columns-columns.result in (
+      ((λ out. x.0.0 (rw (← c.q-q.ensures) at out)), search rules),
+      table_of_columns F c.args.digits c.args.coordinates columns (model c.build.result)
+          (rw x.1.digits_are at shape.narrow) c.all_columns-columns.ensures
+          (ap (λ s. s.q) same ∙ x.1.q_is ∙ c.q-q.ensures) (ap (λ s. s.digits) same ∙ x.1.digits_are) (ap (λ s. s.coordinates) same ∙ x.1.coordinates_are)
+          (λ j k l inside.
+          let within : Inside shape.digits shape.coordinates j k l = rw (x.1.digits_are, x.1.coordinates_are) inside in
+          let told = c.build.ensures.entries j k l within in
+          search rules),
     )

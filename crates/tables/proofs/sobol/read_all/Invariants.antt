@@ -1,4 +1,4 @@
-use Rattle.std.proofs.Common.{◌≡◌, ◌-◌, length}
+use Rattle.std.proofs.Common.{◌≡◌, ◌-◌, ◌/◌, length}
 use Rattle.tables.proofs.Reading.{ReadUpTo}
 use Rattle.tables.proofs.sobol.read_all.Given as goal
 
@@ -6,7 +6,7 @@ use Rattle.tables.proofs.sobol.read_all.Given as goal
 abbrev pub invariant-loop-record : goal.invariant-loop-record
 invariant-loop-record l =
     (l.reader.list.now ≡ l.initial.reader.list.now)
-    × ReadUpTo l.initial.reader.list.now l.coordinates l.reader.place l.numbers
+    × ReadUpTo l.initial.reader.list.now (l.reader.place / 20) l.reader.place l.numbers
 
 abbrev pub decreases-loop-record : goal.decreases-loop-record
 decreases-loop-record l = length l.initial.reader.list.now - l.reader.place

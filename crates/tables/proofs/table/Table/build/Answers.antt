@@ -1,37 +1,13 @@
-use Rattle.std.proofs.Common.{sym, arith}
-use Rattle.base.proofs.Widths.{at_most_32_digits}
-use Rattle.tables.proofs.Spreading.{spread_entry, spread_small, spread_spare}
+use Rattle.tables.proofs.Spreading.{place_column, place_coordinate, place_row, place_used}
+use Rattle.tables.specs.Places.{place}
 use Rattle.tables.proofs.table.Table.build.Goals as goal
 
-pub invariant_of-result : goal.invariant_of-result
-invariant_of-result g c =
-    let t = g.R.DigitRule.means c.args.rule.now in
-    let sizes = c.requires.sizes in
-    let limits = c.requires.limits in
-    let told = c.spread-entries.ensures in
-    let small = spread_small t 8192 c.spread-entries.result told.size told.places (omega arith) in
-    let spare = spread_spare t 8192 c.spread-entries.result told.size told.places in
-    record {
-      all = c.in-Some.ensures.1;
-      base = limits.0;
-      width = limits.1;
-      narrow = at_most_32_digits c.args.q c.args.digits limits.0.0 limits.1.1;
-      dimension = limits.2;
-      small = λ i. rw (← sizes.0) (small i);
-      spare = λ i none. spare i (rw (sizes.1, sizes.2) none);
-    }
-
-pub returns : goal.returns
-returns g c =
-    let t = g.R.DigitRule.means c.args.rule.now in
-    let sizes = c.requires.sizes in
-    let limits = c.requires.limits in
-    record {
-      q = sym sizes.0;
-      digits = sym sizes.1;
-      coordinates = sym sizes.2;
-      entry = λ j k l inside.
-          spread_entry t c.spread-entries.result
-          (omega (arith, at_most_32_digits c.args.q c.args.digits limits.0.0 limits.1.1)) (omega arith)
-          c.spread-entries.ensures.places j k l (rw (sizes.1, sizes.2) inside);
-    }
+pub returns-clause-entries : goal.returns-clause-entries
+returns-clause-entries g c j k l inside =
+    let x = c.args.shape in
+    let few = x.dimension.1 in
+    rw (
+      place_coordinate x.digits x.coordinates j k l x.narrow few inside,
+      place_row x.digits x.coordinates j k l x.narrow few inside,
+      place_column x.digits x.coordinates j k l x.narrow few inside,
+    ) at (c.spread-entries.ensures.given (place j k l) (place_used x.digits x.coordinates j k l x.narrow few inside))
