@@ -1,5 +1,6 @@
 pub mod Cubes
 pub mod FieldAlgebra
+pub mod Horner
 pub mod SplitOrder
 pub mod SplitsPassed
 pub mod Testing

@@ -1,7 +1,8 @@
 //! The test of bytes that should be digits.
-ghost use Rattle.std.specs.Prelude.{MatchOption};
+ghost use Rattle.std.specs.Prelude.{◌≡◌, ◌%◌, ◌^◌, MatchOption};
 ghost use Rattle.base.specs.Digits.{AllDigits, FirstBad, digit_tests};
 ghost use Rattle.base.specs.Faults.{layer_number};
+ghost use Rattle.base.specs.Points.{numerator};
 ghost use Rattle.base.specs.Tests.{Gives};
 
 use crate::faults::{Fault, Kind, Layer};
@@ -21,4 +22,15 @@ pub fn check_digits(bytes: &[u8], q: u8, layer: Layer) -> Result<(), Fault>
         Some(place) => Err(Fault::at(Kind::BadDigit, layer, place)),
         None => Ok(()),
     }
+}
+
+/// The number that the digits of a word make in base q, first digit highest, as far as 32 bits hold it.
+pub fn number_of(word: &[u8], q: u8) -> u32
+    ensures { result ≡ numerator q word.now % 2 ^ 32 }
+{
+    word.iter().fold(0u32, |number, digit| {
+        number
+            .wrapping_mul(u32::from(q))
+            .wrapping_add(u32::from(*digit))
+    })
 }
