@@ -1,6 +1,6 @@
 //! An index made digit by digit from a position, each digit from the position's digit and those above it.
 ghost use Rattle.std.specs.Prelude.{◌≡◌, ℕ, ◌^◌, ◌<◌};
-ghost use Rattle.orders.specs.Digitwise.{by_digits};
+ghost use Rattle.orders.specs.Digitwise.{GivesSteps, by_digits};
 
 use crate::size::Size;
 
@@ -9,8 +9,7 @@ use crate::size::Size;
 pub(crate) fn index_by<F: Fn(usize, u64, u8) -> u8>(size: &Size, rule: F, position: u64) -> u64
     requires can { (l h d : ℕ) → l < 32 → h < 2 ^ 64 → d < size.now.q → F.pre rule l h d }
     requires small { (l h d x : ℕ) → l < 32 → d < size.now.q → F.post rule l h d x → x < size.now.q }
-    ensures { (step : ℕ → ℕ → ℕ → ℕ)
-        → ((l h d x : ℕ) → l < 32 → d < size.now.q → F.post rule l h d x → x ≡ step l h d)
+    ensures { (step : ℕ → ℕ → ℕ → ℕ) → GivesSteps size.now.q (F.post rule) step
         → result ≡ by_digits size.now.q size.now.digits step position }
 {
     if position >= size.positions {

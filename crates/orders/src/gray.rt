@@ -14,7 +14,7 @@ use base::faults::Fault;
 
 /// The order whose digit at q^l is (d_l - d_(l+1)) mod q. This is arithmetic on numbers and not in a field:
 /// for q = 4, d_l = 0 and d_(l+1) = 1 it is 3, where the field of four would give 1.
-#[derive(Clone, Copy)]
+#[derive(Clone, Copy, Debug, PartialEq, Eq)]
 pub struct GrayOrder {
     size: Size,
 }

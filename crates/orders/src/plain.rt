@@ -9,7 +9,7 @@ use crate::size::Size;
 use base::faults::Fault;
 
 /// The order that keeps each digit.
-#[derive(Clone, Copy)]
+#[derive(Clone, Copy, Debug, PartialEq, Eq)]
 pub struct PlainOrder {
     size: Size,
 }

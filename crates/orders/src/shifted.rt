@@ -8,7 +8,7 @@ use base::digits::check_digits;
 use base::faults::{Fault, Kind, Layer};
 
 /// The order whose digit at q^l is (d_l + key_l) mod q, arithmetic on numbers.
-#[derive(Clone, Copy)]
+#[derive(Clone, Copy, Debug, PartialEq, Eq)]
 pub struct ShiftedOrder {
     size: Size,
     // Key digit l stands at l; the rest is 0. An array, since nothing here may ask for heap memory.

@@ -6,7 +6,7 @@ use base::faults::{Fault, Kind, Layer};
 use base::limits::positions;
 
 /// q and the number of digits, within their limits, and q^digits.
-#[derive(Clone, Copy)]
+#[derive(Clone, Copy, Debug, PartialEq, Eq)]
 pub struct Size {
     pub(crate) q: u8,
     pub(crate) digits: u8,
