@@ -1,6 +1,6 @@
 -- What a shift keeps of its key. Assumes nothing.
 use Rattle.std.specs.Prelude.{◌≡◌, ℕ, ◌<◌, List, length, slice_index}
-use Rattle.scramblers.specs.Shapes.{HasShape}
+use Rattle.base.specs.Shapes.{HasShape}
 use Rattle.scramblers.specs.declared.shift.ShiftScrambler.{ShiftScrambler}
 
 -- the shift has the numbers and the key digits that it was made with
