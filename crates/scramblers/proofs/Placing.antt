@@ -6,7 +6,8 @@ use Rattle.base.proofs.Testing.{clean_in_turn, refused_in_turn}
 use Rattle.base.specs.Faults.{refusal}
 use Rattle.base.specs.Tests.{Clean, Refused}
 use Rattle.base.specs.declared.limits.Shape.{Shape}
-use Rattle.scramblers.specs.Matrices.{AllPlaced, FirstMisplaced, place_test, place_tests}
+use Rattle.scramblers.specs.Linear.{place_test, place_tests}
+use Rattle.scramblers.specs.Matrices.{AllPlaced, FirstMisplaced}
 
 pub places_clean : (q M : ℕ) (bytes : List ℕ) → AllPlaced q M bytes → Clean (place_tests q M bytes)
 places_clean q M bytes all =

@@ -2,8 +2,8 @@
 ghost use Rattle.std.specs.Prelude.{◌≡◌, ℕ, ◌*◌, ◌<◌, ◌≤◌, false, length, MatchOption, slice_index};
 ghost use Rattle.base.specs.Fields.{sum_over};
 ghost use Rattle.base.specs.Tests.{Gives};
-ghost use Rattle.scramblers.specs.Linear.{misplaced};
-ghost use Rattle.scramblers.specs.Matrices.{AllPlaced, FirstMisplaced, place_tests};
+ghost use Rattle.scramblers.specs.Linear.{misplaced, place_tests};
+ghost use Rattle.scramblers.specs.Matrices.{AllPlaced, FirstMisplaced};
 
 use crate::scrambler::Scrambler;
 use crate::words::{padded, scrambles};
