@@ -44,8 +44,8 @@ module _ (q M s j : ℕ) (word : List ℕ) where
       cond_both (scrambles q M s j word) (f j word) word (λ w. w ≡ word) (λ t. absurd (none (scrambles_decides.0 t))) (λ _. refl)
 
   -- a word that the test of words takes is scrambled
-  pub right_within : (f : ℕ → List ℕ → List ℕ) (r : Bool) → Decides r ((j < s) × Word q M word) → r ≡ true → f j word ≡ (scrambler_of q M s f).scramble j word
-  right_within f r told on = sym (scrambled_within f (told.0 on))
+  pub done_within : (f : ℕ → List ℕ → List ℕ) (r : Bool) → Decides r ((j < s) × Word q M word) → r ≡ true → f j word ≡ (scrambler_of q M s f).scramble j word
+  done_within f r told on = sym (scrambled_within f (told.0 on))
 
   -- a word that the test of words refuses stays
   pub left_outside : (f : ℕ → List ℕ → List ℕ) (r : Bool) → Decides r ((j < s) × Word q M word) → r ≡ false → word ≡ (scrambler_of q M s f).scramble j word

@@ -18,7 +18,8 @@ pub struct ChainScrambler<A: Scrambler, B: Scrambler> {
 impl<A: Scrambler + Drop, B: Scrambler + Drop> ChainScrambler<A, B> {
     /// The chain of two scramblers of the same q, digits and coordinates.
     pub fn new(first: A, second: B) -> Result<ChainScrambler<A, B>, Fault>
-        ensures { Gives (chain_tests (A.Scrambler.means first) (B.Scrambler.means second)) result (λ x. (x.first ≡ first) × (x.second ≡ second)) }
+        ensures { Gives (chain_tests (A.Scrambler.means first) (B.Scrambler.means second)) result
+            (λ x. (x.first ≡ first) × (x.second ≡ second)) }
     {
         if first.q() != second.q()
             || first.digits() != second.digits()

@@ -21,7 +21,8 @@ pub struct KeyedScrambler {
 impl KeyedScrambler {
     /// Scrambling by a key, of words of some digits and coordinates.
     pub fn new(q: u8, digits: u8, coordinates: u8, key: u32) -> Result<KeyedScrambler, Fault>
-        ensures { Gives (shape_tests q digits coordinates) result (λ x. HasShape q digits coordinates x.shape × (x.key ≡ key)) }
+        ensures { Gives (shape_tests q digits coordinates) result
+            (λ x. HasShape q digits coordinates x.shape × (x.key ≡ key)) }
     {
         let shape = Shape::new(q, digits, coordinates, Layer::Making)?;
         Ok(KeyedScrambler { shape, key })

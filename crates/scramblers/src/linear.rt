@@ -19,7 +19,8 @@ pub struct LinearScrambler<F: Field> {
     // The matrices one after the other, row by row; the rest is 0. An array, since nothing here may ask for heap memory.
     matrices: [u8; 8192],
     ghost same_q: { (F.Field.means field).q ≡ shape.q },
-    ghost placed: { (i : ℕ) → i < shape.coordinates * (shape.digits * shape.digits) → misplaced shape.q shape.digits i (slice_index matrices i) ≡ false },
+    ghost placed: { (i : ℕ) → i < shape.coordinates * (shape.digits * shape.digits)
+        → misplaced shape.q shape.digits i (slice_index matrices i) ≡ false },
 }
 
 // Whether a byte may not stand at a place of matrices of some digits.
@@ -58,7 +59,8 @@ fn check_placed(bytes: &[u8], q: u8, digits: u8) -> Result<(), Fault>
 // The sum of the products of a row's entries with the first digits of a word.
 fn row_sum<F: Field>(field: &F, row: &[u8], word: &[u8]) -> u8
     requires { length row.now ≤ length word.now }
-    ensures { result ≡ sum_over (F.Field.means field.now) (length row.now) (λ i. (F.Field.means field.now).product (slice_index row.now i) (slice_index word.now i)) }
+    ensures { result ≡ sum_over (F.Field.means field.now) (length row.now)
+        (λ i. (F.Field.means field.now).product (slice_index row.now i) (slice_index word.now i)) }
 {
     row.iter().zip(word).fold(0, |sum, (entry, digit)| {
         field.add(sum, field.mul(*entry, *digit))
@@ -68,6 +70,7 @@ fn row_sum<F: Field>(field: &F, row: &[u8], word: &[u8]) -> u8
 impl<F: Field + Drop> LinearScrambler<F> {
     ghost use Rattle.base.specs.Shapes.{HasShape};
     ghost use Rattle.scramblers.specs.Linear.{linear_tests};
+    ghost use Rattle.scramblers.specs.Padding.{BeginsWith};
 
     /// The scrambler of some matrices over a field: digits x digits bytes for each coordinate, row by row.
     pub fn new(
@@ -76,7 +79,9 @@ impl<F: Field + Drop> LinearScrambler<F> {
         coordinates: u8,
         bytes: &[u8],
     ) -> Result<LinearScrambler<F>, Fault>
-        ensures { Gives (linear_tests (F.Field.means field).q digits coordinates bytes.now) result (λ x. (x.field ≡ field) × HasShape (F.Field.means field).q digits coordinates x.shape × ((i : ℕ) → i < length bytes.now → slice_index x.matrices i ≡ slice_index bytes.now i)) }
+        ensures { Gives (linear_tests (F.Field.means field).q digits coordinates bytes.now) result
+            (λ x. (x.field ≡ field) × HasShape (F.Field.means field).q digits coordinates x.shape
+            × BeginsWith bytes.now x.matrices) }
     {
         let q = field.q();
         let shape = Shape::new(q, digits, coordinates, Layer::Making)?;
@@ -96,7 +101,8 @@ impl<F: Field> Scrambler for LinearScrambler<F> {
     ghost use Rattle.scramblers.specs.Linear.{linear_scrambler};
     ghost use Rattle.scramblers.specs.MatrixProducts.{linear_keeps_laws};
 
-    ghost means = { λ x. linear_scrambler (F.Field.means x.field) x.shape.q x.shape.digits x.shape.coordinates x.matrices };
+    ghost means = { λ x.
+        linear_scrambler (F.Field.means x.field) x.shape.q x.shape.digits x.shape.coordinates x.matrices };
 
     ghost keeps = { λ x.
         linear_keeps_laws (F.Field.means x.field) (F.Field.keeps x.field) x.shape.q x.shape.digits

@@ -21,7 +21,7 @@ module _ (q M : ℕ) (bytes : List ℕ) where
 
   from_pairs : (r : Option ℕ)
       → MatchOption r (AllWithin Good (enumerate_from 0 bytes) 0 (length (enumerate_from 0 bytes)))
-          (λ i. (i < length (enumerate_from 0 bytes)) × HoldsAt Bad (enumerate_from 0 bytes) i × AllWithin Good (enumerate_from 0 bytes) 0 i)
+      (λ i. (i < length (enumerate_from 0 bytes)) × HoldsAt Bad (enumerate_from 0 bytes) i × AllWithin Good (enumerate_from 0 bytes) 0 i)
       → MatchOption r (AllPlaced q M bytes) (FirstMisplaced q M bytes)
   from_pairs None all = λ i low. at_pair Good bytes i low (all i (0, 0) (omega arith) (omega (arith, length-enumerate_from 0 bytes)))
   from_pairs (Some i) found =

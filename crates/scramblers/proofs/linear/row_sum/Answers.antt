@@ -15,7 +15,7 @@ returns g c =
     (λ ys a x b f' before k.
     let next : b ≡ more F row word a (x.0.now, x.1.now) = search rules in (
       next ∙ ap (λ s. more F row word s (x.0.now, x.1.now)) before
-      ∙ sym (fold_push (more F row word) 0 ys (x.0.now, x.1.now)),
+          ∙ sym (fold_push (more F row word) 0 ys (x.0.now, x.1.now)),
       search rules,
     ))
     c.zip.result _ 0 c.fold.result

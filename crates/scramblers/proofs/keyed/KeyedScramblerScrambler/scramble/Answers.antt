@@ -3,7 +3,7 @@ use Rattle.std.proofs.lemmas.List.{take_more}
 use Rattle.scramblers.specs.Keyed.{hash_after, hash_next, keyed_rule}
 use Rattle.scramblers.specs.Prefix.{by_prefix}
 use Rattle.scramblers.specs.Prefixes.{scrambled_all, scrambled_more}
-use Rattle.scramblers.specs.Words.{left_outside, right_within}
+use Rattle.scramblers.specs.Words.{left_outside, done_within}
 use Rattle.scramblers.proofs.keyed.KeyedScramblerScrambler.scramble.Goals as goal
 
 hash_after_push : (h : ℕ) (read : List ℕ) (a : ℕ) → hash_after h (read ++ a ∷ []) ≡ hash_next (hash_after h read) a
@@ -29,7 +29,6 @@ loop-digit-preserved c =
     let before = c.loop-digit.invariant in
     let hash = before.hash_is in
     record {
-      small = c.hash_next-hash.type_inv;
       hash_is = c.hash_next-hash.ensures ∙ ap₂ hash_next hash (before.so_far.left n (omega arith))
           ∙ hash_more start n u (omega arith);
       so_far = scrambled_more (keyed_rule c.args.self.now.shape.q c.args.self.now.key c.args.coordinate) n u word _
@@ -41,5 +40,5 @@ returns c =
     let x = c.args.self.now in
     scrambled_all (keyed_rule x.shape.q x.key c.args.coordinate) c.loop-digit.digit-index c.args.word.now
     c.loop-digit.word (omega arith) c.loop-digit.invariant.so_far
-    ∙ right_within x.shape.q x.shape.digits x.shape.coordinates c.args.coordinate c.args.word.now
+    ∙ done_within x.shape.q x.shape.digits x.shape.coordinates c.args.coordinate c.args.word.now
     (λ j. by_prefix (keyed_rule x.shape.q x.key j) []) c.scrambles.result c.scrambles.ensures c.if-not-scrambles.false

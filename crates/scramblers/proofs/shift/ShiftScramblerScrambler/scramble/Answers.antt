@@ -1,7 +1,7 @@
 use Rattle.std.proofs.Common.{[], ◌∙◌, arith}
 use Rattle.scramblers.specs.Prefix.{by_prefix}
 use Rattle.scramblers.specs.Shift.{shift_rule}
-use Rattle.scramblers.specs.Words.{left_outside, right_within}
+use Rattle.scramblers.specs.Words.{left_outside, done_within}
 use Rattle.scramblers.specs.Prefixes.{scrambled_all}
 use Rattle.scramblers.proofs.shift.ShiftScramblerScrambler.scramble.Goals as goal
 
@@ -17,5 +17,5 @@ returns c =
     let rule = shift_rule x.shape.q x.shape.digits x.key in
     scrambled_all (rule c.args.coordinate) c.loop-place.place c.args.word.now c.loop-place.word (omega arith)
     c.loop-place.invariant
-    ∙ right_within x.shape.q x.shape.digits x.shape.coordinates c.args.coordinate c.args.word.now (λ j. by_prefix (rule j) [])
+    ∙ done_within x.shape.q x.shape.digits x.shape.coordinates c.args.coordinate c.args.word.now (λ j. by_prefix (rule j) [])
     c.scrambles.result c.scrambles.ensures c.if-not-scrambles.false
