@@ -1,8 +1,8 @@
 -- An index while it is built, from its lowest digit up: what holds before the first digit and after each,
 -- and that every number on the way fits 64 bits.
 -- Assumes nothing.
-use Rattle.std.proofs.Common.{◌≡◌, ℕ, suc, ◌+◌, ◌*◌, ◌/◌, ◌%◌, ◌^◌, ◌<◌, ◌≤◌, sym, ap, ◌∙◌, ap₂, pow-suc, div-one, add-one, arith}
-use native.Mathlib.Nat.{pow-zero, pow-le-pow_right}
+use Rattle.std.proofs.Common.{◌≡◌, ℕ, suc, ◌+◌, ◌*◌, ◌/◌, ◌%◌, ◌^◌, ◌<◌, ◌≤◌, sym, ap, ◌∙◌, ap₂, pow-suc, add-one, arith}
+use native.Mathlib.Nat.{pow-le-pow_right}
 use Rattle.std.proofs.lemmas.Nat.{mul-add-lt, mul-le}
 use Rattle.base.specs.Orders.{from_digits}
 use Rattle.base.specs.Tables.{BaseLimits, DigitLimits}
@@ -14,10 +14,6 @@ pub record Built (q n l weight rest index : ℕ) : Type 0 where
   pub weight_is : weight ≡ q ^ l
   pub rest_is : rest ≡ n / q ^ l
   pub index_small : index < weight
-
-pub built_none : (q n : ℕ) → Built q n 0 1 n 0
-built_none q n =
-    record { weight_is = sym (pow-zero q); rest_is = rw pow-zero (sym (div-one n)); index_small = omega arith }
 
 module _ {q n l weight rest index : ℕ} (built : Built q n l weight rest index) where
   rest_lower : rest / q ≡ n / q ^ suc l

@@ -1,11 +1,7 @@
-use Rattle.std.proofs.Common.{◌+◌, ◌*◌, ◌%◌, ◌^◌, ◌<◌, ◌≤◌, ◌∙◌, mod-lt, refl, arith}
-use Rattle.orders.proofs.Building.{built_none, built_more, index_more, index_with_digit_small, next_weight_small}
+use Rattle.std.proofs.Common.{◌+◌, ◌*◌, ◌%◌, ◌^◌, ◌<◌, ◌≤◌, ◌∙◌, mod-lt, arith}
+use Rattle.orders.proofs.Building.{built_more, index_more, index_with_digit_small, next_weight_small}
 use Rattle.orders.proofs.digitwise.index_by.Given as given
 use Rattle.orders.proofs.digitwise.index_by.Goals as goal
-
-pub loop-place-init : goal.loop-place-init
-loop-place-init g c =
-    record { built = built_none c.from-q.result c.args.position; index_is = λ step by_rule. refl }
 
 -- the rule is given a place below 32 and a digit
 digit_given : (g : given.Over) (c : goal.After-from g)
