@@ -23,34 +23,33 @@ pub struct LinearScrambler<F: Field> {
         → misplaced shape.q shape.digits i (slice_index matrices i) ≡ false },
 }
 
-// Whether a byte may not stand at a place of matrices of some digits.
-fn is_misplaced(q: u8, digits: u8, place: usize, byte: u8) -> bool
-    requires { 1 ≤ digits }
-    ensures { result ≡ misplaced q digits place byte }
+// Whether a byte may not stand at a place of the matrices of a shape.
+fn is_misplaced(shape: &Shape, place: usize, byte: u8) -> bool
+    ensures { result ≡ misplaced shape.now.q shape.now.digits place byte }
 {
-    let digits = usize::from(digits);
+    let digits = usize::from(shape.digits);
     let row = place / digits % digits;
     let column = place % digits;
-    byte >= q || (row == column && byte == 0) || (row < column && byte != 0)
+    byte >= shape.q || (row == column && byte == 0) || (row < column && byte != 0)
 }
 
 // The first byte that may not stand where it stands; none where all may.
-fn first_misplaced(bytes: &[u8], q: u8, digits: u8) -> Option<usize>
-    requires { 1 ≤ digits }
-    ensures { MatchOption result (AllPlaced q digits bytes.now) (FirstMisplaced q digits bytes.now) }
+fn first_misplaced(shape: &Shape, bytes: &[u8]) -> Option<usize>
+    ensures { MatchOption result (AllPlaced shape.now.q shape.now.digits bytes.now)
+        (FirstMisplaced shape.now.q shape.now.digits bytes.now) }
 {
     bytes
         .iter()
         .enumerate()
-        .position(|(place, byte)| is_misplaced(q, digits, place, *byte))
+        .position(|(place, byte)| is_misplaced(shape, place, *byte))
 }
 
 // Refuses bytes of which one may not stand where it stands: the place is the index of the first.
-fn check_placed(bytes: &[u8], q: u8, digits: u8) -> Result<(), Fault>
-    requires { 1 ≤ digits }
-    ensures { Gives (place_tests q digits bytes.now) result (λ _. AllPlaced q digits bytes.now) }
+fn check_placed(shape: &Shape, bytes: &[u8]) -> Result<(), Fault>
+    ensures { Gives (place_tests shape.now.q shape.now.digits bytes.now) result
+        (λ _. AllPlaced shape.now.q shape.now.digits bytes.now) }
 {
-    match first_misplaced(bytes, q, digits) {
+    match first_misplaced(shape, bytes) {
         Some(place) => Err(Fault::at(Kind::BadDigit, Layer::Making, place)),
         None => Ok(()),
     }
@@ -83,12 +82,11 @@ impl<F: Field + Drop> LinearScrambler<F> {
             (λ x. (x.field ≡ field) × HasShape (F.Field.means field).q digits coordinates x.shape
             × BeginsWith bytes.now x.matrices) }
     {
-        let q = field.q();
-        let shape = Shape::new(q, digits, coordinates, Layer::Making)?;
+        let shape = Shape::new(field.q(), digits, coordinates, Layer::Making)?;
         if bytes.len() != usize::from(coordinates) * (usize::from(digits) * usize::from(digits)) {
             return Err(Fault::of(Kind::WrongLength, Layer::Making));
         }
-        check_placed(bytes, q, digits)?;
+        check_placed(&shape, bytes)?;
         Ok(LinearScrambler {
             field,
             shape,
@@ -126,7 +124,8 @@ impl<F: Field> Scrambler for LinearScrambler<F> {
         }
         let digits = usize::from(self.shape.digits);
         let matrix = usize::from(coordinate) * digits;
-        // From the last row up, so that each row still finds the digits before it as they were read.
+        // From the last row up, so that each row still finds the digits before it as they were read. By index, since a row's
+        // sum reads the word that an iterator would hold.
         for row in (0..digits).rev() {
             let start = (matrix + row) * digits;
             // Past the diagonal a row is 0.

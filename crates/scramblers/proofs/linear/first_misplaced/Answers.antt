@@ -34,8 +34,8 @@ module _ (q M : ℕ) (bytes : List ℕ) where
 
 pub returns : goal.returns
 returns c =
-    let q = c.args.q in
-    let M = c.args.digits in
+    let q = c.args.shape.now.q in
+    let M = c.args.shape.now.digits in
     let bytes = c.args.bytes.now in
     from_pairs q M bytes c.position.result
     (IsFirst-from_position _ _ c.position.result (Bad q M bytes) (Good q M bytes) c.position.ensures.ran
