@@ -1,5 +1,5 @@
 -- The field of four elements. Assumes nothing.
-use Rattle.std.specs.Prelude.{ℕ, ◌+◌, ◌*◌, cond, List, [], ◌∷◌, Some, None, Option, ◌==◌, bit_xor, slice_index}
+use Rattle.std.specs.Prelude.{ℕ, ◌+◌, ◌*◌, if◌then◌else◌, List, [], ◌∷◌, Some, None, Option, ◌==◌, bit_xor, slice_index}
 use Rattle.base.specs.Fields.{FieldModel}
 use Rattle.fields.specs.Guarded.{field_on}
 
@@ -9,7 +9,7 @@ products = 0 ∷ 0 ∷ 0 ∷ 0 ∷ 0 ∷ 1 ∷ 2 ∷ 3 ∷ 0 ∷ 2 ∷ 3 ∷ 1 �
 
 -- 1 is its own inverse, 2 and 3 are each other's
 abbrev pub four_inverse : ℕ → Option ℕ
-four_inverse a = cond (a == 1) (Some 1) (cond (a == 2) (Some 3) (cond (a == 3) (Some 2) None))
+four_inverse a = if a == 1 then Some 1 else if a == 2 then Some 3 else if a == 3 then Some 2 else None
 
 -- sum is exclusive-or, and each element is its own negative
 abbrev pub four_field : FieldModel

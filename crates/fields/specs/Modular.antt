@@ -1,21 +1,14 @@
 -- The numbers modulo q keep the laws of a field, for every q above 1 but for inverses; those are found by a test over the
 -- six primes.
 -- Assumes nothing.
-use Rattle.std.specs.Prelude.{◌≡◌, ℕ, suc, ◌+◌, ◌-◌, ◌*◌, ◌/◌, ◌%◌, ◌<◌, ◌≤◌, Bool, true, false, Some, None, Option, ◌==◌, refl}
-use Rattle.std.proofs.Common.{sym, ◌∙◌, ap, subst, ⊎_elim, add_assoc, add_comm, add-mul, mod-eq_of_lt, mod-lt, mul-add, mul_assoc, mul_comm, one-mul, zero-add, arith}
-use Rattle.std.proofs.Math.Nat.{add-mod, add-mod-mod, add-mul-mod_self_left, mod-add-div, mod-add-mod, mod_self}
+use Rattle.std.specs.Prelude.{◌≡◌, ℕ, ◌+◌, ◌-◌, ◌*◌, ◌%◌, ◌≤◌, Bool, true, None, ◌==◌, refl}
+use Rattle.std.proofs.Common.{sym, ◌∙◌, ap, subst, ⊎_elim, add_assoc, add_comm, mod-eq_of_lt, mod-lt, mul-add, mul_assoc, mul_comm, one-mul, zero-add, arith}
+use Rattle.std.proofs.Math.Nat.{add-mod, add-mod-mod, mod-add-mod, mod_self}
+use Rattle.std.proofs.lemmas.Nat.{mul-mod_first, mul-mod_second}
 use Rattle.std.proofs.lemmas.Bool.{eqb-true, or_cases}
 use Rattle.fields.specs.OnDigits.{DigitLaws}
 use Rattle.fields.specs.Tested.{all, all_at, inverse_from_test, invertible}
-use Rattle.fields.specs.Prime.{first_from, inverse_modulo, is_prime_size}
-
-mod_mul_mod : (a b q : ℕ) → a % q * b % q ≡ a * b % q
-mod_mul_mod a b q =
-    sym (ap (λ x. x * b % q) (sym (mod-add-div a q)) ∙ ap (λ x. x % q) (add-mul (a % q) (q * (a / q)) b ∙ ap (λ x. a % q * b + x) (mul_assoc q (a / q) b))
-    ∙ add-mul-mod_self_left (a % q * b) q (a / q * b))
-
-mul_mod_mod : (a b q : ℕ) → a * (b % q) % q ≡ a * b % q
-mul_mod_mod a b q = ap (λ x. x % q) (mul_comm a (b % q)) ∙ mod_mul_mod b a q ∙ ap (λ x. x % q) (mul_comm b a)
+use Rattle.fields.specs.Prime.{inverse_modulo, is_prime_size}
 
 -- every digit but 0 has an inverse, for each of the six primes
 abbrev pub invertible_digits : ℕ → Bool
@@ -41,28 +34,12 @@ modular_laws q h prime =
       sum_comm = λ a b _ _. ap (λ x. x % q) (add_comm a b);
       sum_zero = λ a l. ap (λ x. x % q) (zero-add a) ∙ mod-eq_of_lt l;
       sum_negative = λ a l. add-mod-mod a (q - a) q ∙ ap (λ x. x % q) (omega arith) ∙ mod_self q;
-      product_assoc = λ a b c _ _ _. mod_mul_mod (a * b) c q ∙ ap (λ x. x % q) (mul_assoc a b c) ∙ sym (mul_mod_mod a (b * c) q);
+      product_assoc = λ a b c _ _ _. mul-mod_first (a * b) c q ∙ ap (λ x. x % q) (mul_assoc a b c) ∙ sym (mul-mod_second a (b * c) q);
       product_comm = λ a b _ _. ap (λ x. x % q) (mul_comm a b);
       product_one = λ a l. ap (λ x. x % q) (one-mul a) ∙ mod-eq_of_lt l;
-      distributes = λ a b c _ _ _. mul_mod_mod a (b + c) q ∙ ap (λ x. x % q) (mul-add a b c) ∙ add-mod (a * b) (a * c) q;
+      distributes = λ a b c _ _ _. mul-mod_second a (b + c) q ∙ ap (λ x. x % q) (mul-add a b c) ∙ add-mod (a * b) (a * c) q;
       inverse_is = λ a l ne.
           inverse_from_test q (λ x y. x * y % q) (inverse_modulo q) a
           (all_at q (invertible q (λ x y. x * y % q) (inverse_modulo q)) (six_invertible q prime) a l) ne;
       inverse_of_zero = six (λ n. inverse_modulo n 0 ≡ None) refl refl refl refl refl refl q prime;
     }
-
--- the first number that passes is the one at hand, or comes after it
-module _ (p : ℕ → Bool) (b q : ℕ) (low : b < q) where
-  opened : (t : Bool) → p b ≡ t → first_from p b (q - b) ≡ elim t [ true ↦ Some b | false ↦ first_from p (b + 1) (q - (b + 1)) ]
-  opened t e =
-      let more : q - b ≡ suc (q - (b + 1)) = omega arith in
-      ap (first_from p b) more ∙ ap (λ x. pick x) e
-    where
-      pick : Bool → Option ℕ
-      pick x = elim x [ true ↦ Some b | false ↦ first_from p (b + 1) (q - (b + 1)) ]
-
-  pub first_here : p b ≡ true → first_from p b (q - b) ≡ Some b
-  first_here = opened true
-
-  pub first_later : p b ≡ false → first_from p b (q - b) ≡ first_from p (b + 1) (q - (b + 1))
-  first_later = opened false

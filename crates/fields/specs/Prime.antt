@@ -1,5 +1,6 @@
 -- The fields of a prime number of elements. Assumes nothing.
-use Rattle.std.specs.Prelude.{ℕ, zero, suc, ◌+◌, ◌-◌, ◌*◌, ◌%◌, Bool, true, false, ◌||◌, List, [], ◌∷◌, Some, None, Option, ◌==◌, ◌≢◌, nat_eq}
+use Rattle.std.specs.Prelude.{ℕ, ◌+◌, ◌-◌, ◌*◌, ◌%◌, Bool, true, ◌||◌, List, [], ◌∷◌, Option, ◌==◌, ◌≢◌, find}
+use Rattle.std.specs.List.{range_with_len}
 use Rattle.base.specs.Faults.{refusal}
 use Rattle.base.specs.Fields.{FieldModel}
 use Rattle.base.specs.Tests.{Test, test}
@@ -9,14 +10,9 @@ use Rattle.fields.specs.Guarded.{field_on}
 abbrev pub is_prime_size : ℕ → Bool
 is_prime_size q = q == 2 || (q == 3 || (q == 5 || (q == 7 || (q == 11 || q == 13))))
 
--- the first of the n numbers from b on that passes
-abbrev pub first_from : (ℕ → Bool) → ℕ → ℕ → Option ℕ
-first_from passes b zero = None
-first_from passes b (suc n) = elim (passes b) [ true ↦ Some b | false ↦ first_from passes (b + 1) n ]
-
--- the digit above 0 whose product with a is 1 modulo q
+-- the first digit above 0 whose product with a is 1 modulo q
 abbrev pub inverse_modulo : ℕ → ℕ → Option ℕ
-inverse_modulo q a = first_from (λ b. nat_eq (a * b % q) 1) 1 (q - 1)
+inverse_modulo q a = find (λ b. a * b % q == 1) (range_with_len 1 (q - 1))
 
 -- sum, product and negative modulo q
 abbrev pub prime_field : ℕ → FieldModel

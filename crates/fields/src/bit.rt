@@ -5,10 +5,11 @@ ghost use Rattle.std.proofs.Common.{arith};
 ghost use Rattle.fields.specs.OnDigits.{laws_from_digits};
 ghost use Rattle.fields.specs.Tested.{laws_from_test};
 
+use crate::binary::{same_digit, xor_digits};
 use crate::field::Field;
 
 /// The field of two elements: sum is exclusive-or, product is and.
-#[derive(Clone, Copy)]
+#[derive(Clone, Copy, Debug, PartialEq, Eq)]
 pub struct BitField;
 
 impl Field for BitField {
@@ -23,7 +24,7 @@ impl Field for BitField {
     }
 
     fn add(&self, a: u8, b: u8) -> u8 {
-        if a < 2 && b < 2 { a ^ b } else { 0 }
+        xor_digits::<2>(a, b)
     }
 
     fn mul(&self, a: u8, b: u8) -> u8 {
@@ -31,7 +32,7 @@ impl Field for BitField {
     }
 
     fn neg(&self, a: u8) -> u8 {
-        if a < 2 { a } else { 0 }
+        same_digit::<2>(a)
     }
 
     fn inverse(&self, a: u8) -> Option<u8> {

@@ -1,6 +1,7 @@
 //! Digit fields: sum, product, negative and inverse of the digits below q.
 #![tactic(auto)]
 
+mod binary;
 pub mod bit;
 pub mod field;
 pub mod four;

@@ -10,7 +10,7 @@ use crate::field::Field;
 use base::faults::{Fault, Kind, Layer};
 
 /// The numbers modulo q, for q one of 2, 3, 5, 7, 11 and 13.
-#[derive(Clone, Copy)]
+#[derive(Clone, Copy, Debug, PartialEq, Eq)]
 pub struct PrimeField {
     q: u8,
     ghost prime: { is_prime_size q ≡ true },
@@ -50,7 +50,7 @@ impl Field for PrimeField {
 
     fn mul(&self, a: u8, b: u8) -> u8 {
         if a < self.q && b < self.q {
-            ((a as u16 * b as u16) % self.q as u16) as u8
+            (u16::from(a) * u16::from(b) % u16::from(self.q)) as u8
         } else {
             0
         }
@@ -64,11 +64,6 @@ impl Field for PrimeField {
         if a >= self.q {
             return None;
         }
-        for b in 1..self.q {
-            if (a as u16 * b as u16) % self.q as u16 == 1 {
-                return Some(b);
-            }
-        }
-        None
+        (1..self.q).find(|b| u16::from(a) * u16::from(*b) % u16::from(self.q) == 1)
     }
 }

@@ -1,20 +1,20 @@
 //! The Gray order: each digit of the index is a digit of the position less the one above it.
-ghost use Rattle.std.specs.Prelude.{◌≡◌, ◌+◌, ◌-◌, ◌%◌};
+ghost use Rattle.std.specs.Prelude.{◌+◌, ◌-◌, ◌%◌};
 ghost use Rattle.base.specs.Tests.{Gives};
 ghost use Rattle.orders.specs.Gray.{gray_order, gray_step};
-ghost use Rattle.orders.specs.Sizes.{size_tests};
+ghost use Rattle.orders.specs.Sizes.{HasSize, size_tests};
 ghost use Rattle.std.proofs.Common.{mod-lt, arith};
 ghost use Rattle.orders.specs.Numerals.{same_if_shifts_same};
 ghost use Rattle.orders.specs.Prefixes.{digitwise_keeps_laws};
 
-use crate::digitwise::{DigitStep, index_by};
+use crate::digitwise::index_by;
 use crate::order::Order;
 use crate::size::Size;
 use base::faults::Fault;
 
 /// The order whose digit at q^l is (d_l - d_(l+1)) mod q. This is arithmetic on numbers and not in a field:
 /// for q = 4, d_l = 0 and d_(l+1) = 1 it is 3, where the field of four would give 1.
-#[derive(Clone, Copy)]
+#[derive(Clone, Copy, Debug, PartialEq, Eq)]
 pub struct GrayOrder {
     size: Size,
 }
@@ -22,22 +22,10 @@ pub struct GrayOrder {
 impl GrayOrder {
     /// The Gray order of words of some digits.
     pub fn new(q: u8, digits: u8) -> Result<GrayOrder, Fault>
-        ensures { Gives (size_tests q digits) result (λ x. (x.size.q ≡ q) × (x.size.digits ≡ digits)) }
+        ensures { Gives (size_tests q digits) result (λ x. HasSize q digits x.size) }
     {
         let size = Size::new(q, digits)?;
         Ok(GrayOrder { size })
-    }
-}
-
-impl DigitStep for GrayOrder {
-    ghost step = { λ x. gray_step x.size.q };
-
-    ghost base = { λ x. x.size.q };
-
-    fn next(&self, _place: usize, above: u64, digit: u8) -> u8 {
-        let q = self.size.q;
-        let next = (above % u64::from(q)) as u8;
-        (digit + (q - next)) % q
     }
 }
 
@@ -59,6 +47,14 @@ impl Order for GrayOrder {
     }
 
     fn index(&self, position: u64) -> u64 {
-        index_by(&self.size, self, position)
+        let q = self.size.q;
+        index_by(
+            &self.size,
+            |_place, above, digit| {
+                let next = (above % u64::from(q)) as u8;
+                (digit + (q - next)) % q
+            },
+            position,
+        )
     }
 }

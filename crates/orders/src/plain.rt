@@ -1,7 +1,6 @@
 //! The plain order: each index is its position.
-ghost use Rattle.std.specs.Prelude.{◌≡◌};
 ghost use Rattle.base.specs.Tests.{Gives};
-ghost use Rattle.orders.specs.Sizes.{size_tests};
+ghost use Rattle.orders.specs.Sizes.{HasSize, size_tests};
 ghost use Rattle.orders.specs.Plain.{plain_order};
 ghost use Rattle.std.proofs.Common.{rules};
 
@@ -10,7 +9,7 @@ use crate::size::Size;
 use base::faults::Fault;
 
 /// The order that keeps each digit.
-#[derive(Clone, Copy)]
+#[derive(Clone, Copy, Debug, PartialEq, Eq)]
 pub struct PlainOrder {
     size: Size,
 }
@@ -18,7 +17,7 @@ pub struct PlainOrder {
 impl PlainOrder {
     /// The plain order of words of some digits.
     pub fn new(q: u8, digits: u8) -> Result<PlainOrder, Fault>
-        ensures { Gives (size_tests q digits) result (λ x. (x.size.q ≡ q) × (x.size.digits ≡ digits)) }
+        ensures { Gives (size_tests q digits) result (λ x. HasSize q digits x.size) }
     {
         let size = Size::new(q, digits)?;
         Ok(PlainOrder { size })

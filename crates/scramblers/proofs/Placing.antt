@@ -1,38 +1,30 @@
--- The tests of the bytes of matrices, one after the other. Assumes nothing.
-use Rattle.std.proofs.Common.{◌≡◌, ℕ, ◌*◌, ◌≤◌, true, List, [], ◌∷◌, length, get_or, sym, refl, ◌∙◌, inl, arith}
+-- The tests of the bytes of matrices, one after the other, and how many bytes those are. Assumes nothing.
+use Rattle.std.proofs.Common.{ℕ, ◌*◌, ◌≤◌, List, length, sym, refl, ◌∙◌, inl, arith}
 use mathlib.Core.Bool.{false≢true}
 use Rattle.std.proofs.lemmas.Nat.{mul-le}
 use Rattle.base.proofs.Testing.{clean_in_turn, refused_in_turn}
-use Rattle.base.proofs.Widths.{at_most_32_digits}
 use Rattle.base.specs.Faults.{refusal}
-use Rattle.base.specs.Tables.{Limits}
-use Rattle.base.specs.Tests.{Test, test, Clean, Refused, in_turn}
-use Rattle.scramblers.specs.Linear.{misplaced}
+use Rattle.base.specs.Tests.{Clean, Refused}
+use Rattle.base.specs.declared.limits.Shape.{Shape}
+use Rattle.scramblers.specs.Linear.{place_test, place_tests}
 use Rattle.scramblers.specs.Matrices.{AllPlaced, FirstMisplaced}
-use Rattle.scramblers.specs.Shapes.{HasShape}
-use Rattle.scramblers.specs.declared.shape.Shape.{Shape}
 
--- the test of one byte
-abbrev pub place_test : ℕ → ℕ → List ℕ → ℕ → List Test
-place_test q M bytes i = test (misplaced q M i (get_or bytes i 0) ≡ true) (refusal 7 6 255 i) ∷ []
-
-pub places_clean : (q M : ℕ) (bytes : List ℕ) → AllPlaced q M bytes → Clean (in_turn (place_test q M bytes) 0 (length bytes))
+pub places_clean : (q M : ℕ) (bytes : List ℕ) → AllPlaced q M bytes → Clean (place_tests q M bytes)
 places_clean q M bytes all =
     clean_in_turn (place_test q M bytes) 0 (length bytes)
     (λ i low high. (λ bad. false≢true (sym (all i (omega arith)) ∙ bad), tt))
 
 pub places_refused : (q M : ℕ) (bytes : List ℕ) (i : ℕ) → FirstMisplaced q M bytes i
-    → Refused (in_turn (place_test q M bytes) 0 (length bytes)) (refusal 7 6 255 i)
+    → Refused (place_tests q M bytes) (refusal 7 6 255 i)
 places_refused q M bytes i found =
     refused_in_turn (place_test q M bytes) 0 (length bytes) i (refusal 7 6 255 i) (omega arith) (omega (arith, found.within))
     (λ k low high. (λ bad. false≢true (sym (found.first k high) ∙ bad), tt)) (inl (found.bad, refl))
 
--- matrices within the limits have at most 8,192 bytes
-pub matrices_fit : (q M s : ℕ) → Limits q M s → s * (M * M) ≤ 8192
-matrices_fit q M s limits =
-    let narrow = at_most_32_digits q M limits.0.0 limits.1.1 in
-    mul-le s (M * M) 8 1024 limits.2.1 (mul-le M M 32 32 narrow narrow)
+-- the matrices of a shape have at most 8,192 bytes
+pub matrices_fit : (x : Shape) → x.coordinates * (x.digits * x.digits) ≤ 8192
+matrices_fit x =
+    mul-le x.coordinates (x.digits * x.digits) 8 1024 x.dimension.1 (mul-le x.digits x.digits 32 32 x.narrow x.narrow)
 
--- a shape keeps the limits of its numbers
-pub limits_of_shape : (q M s : ℕ) (x : Shape) → HasShape q M s x → Limits q M s
-limits_of_shape q M s x has = rw (← has.q_is, ← has.digits_are, ← has.coordinates_are) (x.base, x.width, x.dimension)
+-- a key of one digit for each place of each coordinate has at most 256 digits
+pub key_fits : (x : Shape) → x.coordinates * x.digits ≤ 256
+key_fits x = mul-le x.coordinates x.digits 8 32 x.dimension.1 x.narrow

@@ -1,5 +1,5 @@
 -- Two scramblers, one after the other. Assumes nothing.
-use Rattle.std.specs.Prelude.{Bool, true, cond, ◌&&◌, List, [], ◌∷◌, ◌==◌, ◌≢◌}
+use Rattle.std.specs.Prelude.{Bool, true, if◌then◌else◌, ◌&&◌, List, [], ◌∷◌, ◌==◌, ◌≢◌}
 use Rattle.base.specs.Faults.{refusal}
 use Rattle.base.specs.Scramblers.{ScramblerModel}
 use Rattle.base.specs.Tests.{Test, test}
@@ -15,7 +15,7 @@ chain_scrambler A B =
       q = A.q;
       digits = A.digits;
       coordinates = A.coordinates;
-      scramble = λ j word. cond (same_shape A B) (B.scramble j (A.scramble j word)) (A.scramble j word);
+      scramble = λ j word. if same_shape A B then B.scramble j (A.scramble j word) else A.scramble j word;
     }
 
 -- the test of a chain: its parts fit together

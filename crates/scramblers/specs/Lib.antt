@@ -4,6 +4,7 @@ pub mod Keys
 pub mod Linear
 pub mod Matrices
 pub mod None
+pub mod Padding
 pub mod Prefix
 pub mod Shapes
 pub mod Shift

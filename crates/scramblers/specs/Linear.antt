@@ -1,5 +1,5 @@
 -- Linear scrambling. Assumes nothing.
-use Rattle.std.specs.Prelude.{◌≡◌, ℕ, ◌+◌, ◌*◌, ◌/◌, ◌%◌, Bool, true, cond, not, ◌&&◌, ◌||◌, List, [], ◌∷◌, map, length, ◌==◌, ◌≢◌, nat_le, nat_lt, slice_index}
+use Rattle.std.specs.Prelude.{◌≡◌, ℕ, ◌+◌, ◌*◌, ◌/◌, ◌%◌, Bool, true, if◌then◌else◌, not, ◌&&◌, ◌||◌, List, [], ◌∷◌, map, length, ◌==◌, ◌≢◌, nat_le, nat_lt, slice_index}
 use Rattle.std.specs.List.{range_with_len}
 use Rattle.base.specs.Faults.{refusal}
 use Rattle.base.specs.Fields.{FieldModel, sum_over}
@@ -30,10 +30,18 @@ linear_word F M matrices j word =
 -- it stays as it is
 abbrev pub linear_scrambler : FieldModel → ℕ → ℕ → ℕ → List ℕ → ScramblerModel
 linear_scrambler F q M s matrices =
-    scrambler_of q M s (λ j word. cond (F.q == q) (linear_word F M matrices j word) word)
+    scrambler_of q M s (λ j word. if F.q == q then linear_word F M matrices j word else word)
+
+-- the test of one byte: one that may not stand where it stands is refused with its index as place
+abbrev pub place_test : ℕ → ℕ → List ℕ → ℕ → List Test
+place_test q M bytes i = test (misplaced q M i (slice_index bytes i) ≡ true) (refusal 7 6 255 i) ∷ []
+
+-- the tests of the bytes of matrices, one after the other
+abbrev pub place_tests : ℕ → ℕ → List ℕ → List Test
+place_tests q M bytes = in_turn (place_test q M bytes) 0 (length bytes)
 
 -- the tests of a linear scrambler: M and s, the length, then each byte
 abbrev pub linear_tests : ℕ → ℕ → ℕ → List ℕ → List Test
 linear_tests q M s bytes =
     test (Limits q M s → ⊥) (refusal 2 6 255 0) ∷ test (length bytes ≢ s * (M * M)) (refusal 3 6 255 0)
-    ∷ in_turn (λ i. test (misplaced q M i (slice_index bytes i) ≡ true) (refusal 7 6 255 i) ∷ []) 0 (length bytes)
+    ∷ place_tests q M bytes

@@ -1,7 +1,7 @@
 -- The product of a triangular matrix and a word: each digit follows from the digits read before it, so the scrambler keeps
 -- its laws; and it can be done in place from the last row up.
 -- Assumes nothing.
-use Rattle.std.specs.Prelude.{◌≡◌, ℕ, suc, ◌+◌, ◌-◌, ◌*◌, ◌<◌, ◌≤◌, true, false, cond, ◌≢◌, List, [], ◌∷◌, ◌++◌, length, take, ◌==◌, slice_index, slice_set, refl}
+use Rattle.std.specs.Prelude.{◌≡◌, ℕ, suc, ◌+◌, ◌-◌, ◌*◌, ◌<◌, ◌≤◌, false, cond, ◌≢◌, List, [], ◌∷◌, ◌++◌, length, take, ◌==◌, slice_index, slice_set, refl}
 use Rattle.std.proofs.Common.{sym, ◌∙◌, ap, subst, ⊎_elim, add-one, arith}
 use Rattle.std.proofs.lemmas.List.FromFn.{get_or-map-range_with_len, length-map-range_with_len}
 use Rattle.std.proofs.lemmas.List.{ext_get_or, get_or_past, get_or-set_other, get_or-set_same, get_or-take, length-set, length-take-le, take_more}
@@ -13,8 +13,7 @@ use Rattle.base.specs.Tables.{Limits}
 use Rattle.scramblers.specs.Linear.{linear_scrambler, linear_word, misplaced}
 use Rattle.scramblers.specs.Prefix.{by_prefix}
 use Rattle.scramblers.specs.Prefixes.{kept_by_prefix, prefix_rule_keeps_laws, scrambled_all}
-use Rattle.scramblers.specs.Words.{word_from_test}
-use Rattle.scramblers.specs.Shapes.{scrambles}
+use Rattle.scramblers.specs.Words.{scrambled_within}
 use Rattle.scramblers.specs.Triangles.{cell, linear_rule_digit, linear_rule_one_to_one, linear_rule, matrix_above, matrix_digit}
 
 -- the terms of row k
@@ -122,13 +121,12 @@ linear_keeps_laws F laws q M s C limits placed =
 
 -- in place: once all rows are done, the word is what the scrambler makes of it
 pub linear_in_place : (F : FieldModel) → FieldLaws F → (q M s : ℕ) (C : List ℕ) (j : ℕ) (word now : List ℕ) → F.q ≡ q → Placed q M s C
-    → true ≡ scrambles q M s j word → ScrambledFrom F M C j word 0 now → now ≡ (linear_scrambler F q M s C).scramble j word
-linear_in_place F laws q M s C j word now e placed' test' so_far =
-    subst (λ n. Placed n M s C → true ≡ scrambles n M s j word → now ≡ (linear_scrambler F n M s C).scramble j word) e at_own placed' test'
+    → (j < s) × Word q M word → ScrambledFrom F M C j word 0 now → now ≡ (linear_scrambler F q M s C).scramble j word
+linear_in_place F laws q M s C j word now e placed' within' so_far =
+    subst (λ n. Placed n M s C → (j < s) × Word n M word → now ≡ (linear_scrambler F n M s C).scramble j word) e at_own placed' within'
   where
-    at_own : Placed F.q M s C → true ≡ scrambles F.q M s j word → now ≡ (linear_scrambler F F.q M s C).scramble j word
-    at_own placed test =
-        let is = word_from_test F.q M s j word test in
-        scrambled_up F laws M s C placed j is.0 word is.1 now so_far
+    at_own : Placed F.q M s C → (j < s) × Word F.q M word → now ≡ (linear_scrambler F F.q M s C).scramble j word
+    at_own placed within =
+        scrambled_up F laws M s C placed j within.0 word within.1 now so_far
         ∙ sym (cond-true (F.q == F.q) (linear_word F M C j word) word (eq-eqb F.q F.q refl))
-        ∙ sym (cond-true (scrambles F.q M s j word) (cond (F.q == F.q) (linear_word F M C j word) word) word (sym test))
+        ∙ sym (scrambled_within F.q M s j word (λ j word. cond (F.q == F.q) (linear_word F M C j word) word) within)

@@ -1,5 +1,5 @@
 -- Scrambling digit by digit, each from the digits read before it. Assumes nothing.
-use Rattle.std.specs.Prelude.{ℕ, cond, List, [], ◌∷◌, ◌++◌}
+use Rattle.std.specs.Prelude.{ℕ, if◌then◌else◌, List, [], ◌∷◌, ◌++◌}
 use Rattle.base.specs.Scramblers.{ScramblerModel}
 use Rattle.scramblers.specs.Shapes.{scrambles}
 
@@ -11,4 +11,4 @@ by_prefix rule before (a ∷ rest) = rule before a ∷ by_prefix rule (before ++
 -- the scrambler that does f to the words that it has a say in, and leaves the others
 abbrev pub scrambler_of : ℕ → ℕ → ℕ → (ℕ → List ℕ → List ℕ) → ScramblerModel
 scrambler_of q M s f =
-    record { q = q; digits = M; coordinates = s; scramble = λ j word. cond (scrambles q M s j word) (f j word) word }
+    record { q = q; digits = M; coordinates = s; scramble = λ j word. if scrambles q M s j word then f j word else word }

@@ -1,7 +1,7 @@
 //! Two scramblers, one after the other.
-ghost use Rattle.std.specs.Prelude.{◌≡◌};
+ghost use Rattle.std.specs.Prelude.{◌≡◌, true};
 ghost use Rattle.base.specs.Tests.{Gives};
-ghost use Rattle.scramblers.specs.Chain.{chain_scrambler, chain_tests};
+ghost use Rattle.scramblers.specs.Chain.{chain_scrambler, chain_tests, same_shape};
 ghost use Rattle.scramblers.specs.Chains.{chain_keeps_laws};
 
 use crate::scrambler::Scrambler;
@@ -9,15 +9,17 @@ use base::faults::{Fault, Kind, Layer};
 
 /// The scrambler whose second part works on the result of the first.
 #[derive(Drop)]
-pub struct ChainScrambler<A, B> {
+pub struct ChainScrambler<A: Scrambler, B: Scrambler> {
     first: A,
     second: B,
+    ghost same: { same_shape (A.Scrambler.means first) (B.Scrambler.means second) ≡ true },
 }
 
 impl<A: Scrambler + Drop, B: Scrambler + Drop> ChainScrambler<A, B> {
     /// The chain of two scramblers of the same q, digits and coordinates.
     pub fn new(first: A, second: B) -> Result<ChainScrambler<A, B>, Fault>
-        ensures { Gives (chain_tests (A.Scrambler.means first) (B.Scrambler.means second)) result (λ x. (x.first ≡ first) × (x.second ≡ second)) }
+        ensures { Gives (chain_tests (A.Scrambler.means first) (B.Scrambler.means second)) result
+            (λ x. (x.first ≡ first) × (x.second ≡ second)) }
     {
         if first.q() != second.q()
             || first.digits() != second.digits()
@@ -50,12 +52,6 @@ impl<A: Scrambler, B: Scrambler> Scrambler for ChainScrambler<A, B> {
 
     fn scramble(&self, coordinate: u8, word: &mut [u8]) {
         self.first.scramble(coordinate, word);
-        // Always so in a chain that was made.
-        if self.first.q() == self.second.q()
-            && self.first.digits() == self.second.digits()
-            && self.first.coordinates() == self.second.coordinates()
-        {
-            self.second.scramble(coordinate, word);
-        }
+        self.second.scramble(coordinate, word);
     }
 }

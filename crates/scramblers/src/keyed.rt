@@ -1,13 +1,15 @@
 //! Keyed scrambling: each digit is moved by a number that a 32-bit key and the digits before it give.
 ghost use Rattle.std.specs.Prelude.{◌≡◌, ◌+◌, ◌/◌, ◌%◌, ◌^◌};
+ghost use Rattle.base.specs.Shapes.{HasShape};
 ghost use Rattle.base.specs.Tests.{Gives};
 ghost use Rattle.scramblers.specs.Keyed.{hash_next, keyed_scrambler, hash_after};
-ghost use Rattle.scramblers.specs.Shapes.{HasShape, shape_tests};
+ghost use Rattle.scramblers.specs.Shapes.{shape_tests};
 ghost use Rattle.scramblers.specs.Sums.{adding_keeps_laws};
 
 use crate::scrambler::Scrambler;
-use crate::shape::Shape;
-use base::faults::Fault;
+use crate::words::scrambles;
+use base::faults::{Fault, Layer};
+use base::limits::Shape;
 
 /// The scrambler of a 32-bit key.
 #[derive(Clone, Copy)]
@@ -19,9 +21,10 @@ pub struct KeyedScrambler {
 impl KeyedScrambler {
     /// Scrambling by a key, of words of some digits and coordinates.
     pub fn new(q: u8, digits: u8, coordinates: u8, key: u32) -> Result<KeyedScrambler, Fault>
-        ensures { Gives (shape_tests q digits coordinates) result (λ x. HasShape q digits coordinates x.shape × (x.key ≡ key)) }
+        ensures { Gives (shape_tests q digits coordinates) result
+            (λ x. HasShape q digits coordinates x.shape × (x.key ≡ key)) }
     {
-        let shape = Shape::new(q, digits, coordinates)?;
+        let shape = Shape::new(q, digits, coordinates, Layer::Making)?;
         Ok(KeyedScrambler { shape, key })
     }
 }
@@ -53,15 +56,15 @@ impl Scrambler for KeyedScrambler {
     }
 
     fn scramble(&self, coordinate: u8, word: &mut [u8]) {
-        if !self.shape.scrambles(coordinate, word) {
+        if !scrambles(&self.shape, coordinate, word) {
             return;
         }
         let q = u32::from(self.shape.q);
         let mut hash = self.key.wrapping_add(u32::from(coordinate));
-        for place in 0..word.len() {
-            let digit = word[place];
-            word[place] = ((u32::from(digit) + (hash >> 16)) % q) as u8;
-            hash = hash_next(hash, digit);
+        for digit in word.iter_mut() {
+            let read = *digit;
+            *digit = ((u32::from(read) + (hash >> 16)) % q) as u8;
+            hash = hash_next(hash, read);
         }
     }
 }

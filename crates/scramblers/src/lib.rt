@@ -6,5 +6,5 @@ pub mod keyed;
 pub mod linear;
 pub mod none;
 pub mod scrambler;
-mod shape;
 pub mod shift;
+mod words;

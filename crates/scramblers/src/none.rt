@@ -1,14 +1,15 @@
 //! No scrambling.
+ghost use Rattle.base.specs.Shapes.{HasShape};
 ghost use Rattle.base.specs.Tests.{Gives};
 ghost use Rattle.scramblers.specs.None.{no_scrambler};
-ghost use Rattle.scramblers.specs.Shapes.{HasShape, shape_tests};
+ghost use Rattle.scramblers.specs.Shapes.{shape_tests};
 ghost use Rattle.std.specs.Prelude.{[], refl};
 ghost use Rattle.std.proofs.Common.{sym};
 ghost use Rattle.scramblers.specs.Prefixes.{kept_by_prefix, prefix_rule_laws};
 
 use crate::scrambler::Scrambler;
-use crate::shape::Shape;
-use base::faults::Fault;
+use base::faults::{Fault, Layer};
+use base::limits::Shape;
 
 /// The scrambler that keeps each word.
 #[derive(Clone, Copy)]
@@ -21,7 +22,7 @@ impl NoScrambler {
     pub fn new(q: u8, digits: u8, coordinates: u8) -> Result<NoScrambler, Fault>
         ensures { Gives (shape_tests q digits coordinates) result (λ x. HasShape q digits coordinates x.shape) }
     {
-        let shape = Shape::new(q, digits, coordinates)?;
+        let shape = Shape::new(q, digits, coordinates, Layer::Making)?;
         Ok(NoScrambler { shape })
     }
 }

@@ -1,7 +1,7 @@
-use Rattle.std.proofs.Common.{◌≡◌, ℕ, zero, suc, ◌<◌, ◌≢◌, length, get_or, replicate, refl, inr, arith, rules, below_more}
-use Rattle.std.proofs.lemmas.List.{length-set, get_or-set_same, get_or-set_other}
-use Rattle.base.proofs.Widths.{at_most_32_digits}
-use Rattle.base.proofs.Testing.{digits_clean, digits_refused}
+use Rattle.std.proofs.Common.{◌≡◌, ℕ, zero, suc, ◌<◌, List, ◌++◌, length, get_or, replicate, drop, refl, ⊎_elim, arith}
+use Rattle.std.proofs.lemmas.Bool.{cases_lt}
+use Rattle.std.proofs.lemmas.List.{drop-replicate, get_or_append_left, get_or-append_right}
+use Rattle.base.specs.Digits.{AllDigits}
 use Rattle.orders.proofs.shifted.ShiftedOrder.new.Goals as goal
 
 zero_at_each : (n k : ℕ) → ◌≡◌ {A = ℕ} (get_or (replicate n 0) k 0) 0
@@ -9,45 +9,17 @@ zero_at_each zero k = refl
 zero_at_each (suc n) zero = refl
 zero_at_each (suc n) (suc k) = zero_at_each n k
 
-pub loop-place-init : goal.loop-place-init
-loop-place-init c =
-    let size = c.in_ok-size.size in
-    record {
-      few =
-          omega (arith, at_most_32_digits size.q size.digits size.base.0 size.width.1, c.in_ok-size.ensures.1.1);
-      size = refl;
-      held = λ k h. absurd (omega arith);
-      spare = λ k h. zero_at_each 32 k;
-    }
+-- digits followed by zeros are digits
+digits_padded : (q m n : ℕ) (key : List ℕ) → 0 < q → AllDigits q key → (l : ℕ) → get_or (key ++ drop m (replicate n 0)) l 0 < q
+digits_padded q m n key some all l =
+    ⊎_elim (λ low. rw (get_or_append_left key (drop m (replicate n 0)) 0 l low) (all l low))
+    (λ high. rw (get_or-append_right key (drop m (replicate n 0)) (length key) l 0 refl high, drop-replicate {X = ℕ} m n 0, zero_at_each) some)
+    (cases_lt l (length key))
 
-pub bounds-kept-place : goal.bounds-kept-place
-bounds-kept-place c = omega arith
-
-pub loop-place-preserved : goal.loop-place-preserved
-loop-place-preserved c =
-    let before = c.loop-place.invariant in
-    let within : c.loop-place.place < length c.loop-place.kept = omega arith in
-    record {
-      few = before.few;
-      size = simp length-set before.size;
-      held =
-          below_more _ _ (λ k h. let other : k ≢ c.loop-place.place = omega arith in rw get_or-set_other (before.held k h))
-          (rw get_or-set_same);
-      spare = λ k h. let other : k ≢ c.loop-place.place = omega arith in rw get_or-set_other (before.spare k (omega arith));
-    }
-
-pub returns-in-Some : goal.returns-in-Some
-returns-in-Some c =
-    inr (
-      λ h. h (search rules),
-      inr (λ h. h (search rules), digits_refused c.args.q 6 c.args.key.now c.in-Some.place c.in-Some.ensures),
-    )
-
-pub returns : goal.returns
-returns c = (
-  (
-    λ h. h (search rules),
-    (λ h. h (search rules), digits_clean c.args.q 6 c.args.key.now (search rules)),
-  ),
-  record { q_is = search rules; digits_are = search rules; key_is = search rules },
-)
+pub invariant_of-result : goal.invariant_of-result
+invariant_of-result c =
+    let key = c.args.key.now in
+    let copied : c.copy_from_slice.new.self ≡ key = c.copy_from_slice.ensures.after in
+    let q_is = c.in_ok-size.ensures.1.q_is in
+    let some : 0 < c.args.q = omega arith in
+    record { digits = rw (copied, q_is) (digits_padded c.args.q (length key) 32 key some c.in_ok-check_digits.ensures.1) }

@@ -1,5 +1,5 @@
 use Rattle.scramblers.specs.MatrixProducts.{ScrambledFrom}
-use Rattle.scramblers.proofs.linear.matrix.LinearScramblerScrambler.scramble.Given as goal
+use Rattle.scramblers.proofs.linear.LinearScramblerScrambler.scramble.Given as goal
 
 -- the rows from here on are done, and the digits before them are as they were read
 abbrev pub invariant-loop-row : goal.invariant-loop-row

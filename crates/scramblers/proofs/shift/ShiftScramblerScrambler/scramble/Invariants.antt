@@ -1,6 +1,6 @@
 use Rattle.scramblers.specs.Shift.{shift_rule}
 use Rattle.scramblers.specs.Prefixes.{ScrambledUpTo}
-use Rattle.scramblers.proofs.shift.key.ShiftScramblerScrambler.scramble.Given as goal
+use Rattle.scramblers.proofs.shift.ShiftScramblerScrambler.scramble.Given as goal
 
 -- the digits so far are scrambled
 abbrev pub invariant-loop-place : goal.invariant-loop-place
