@@ -1,9 +1,11 @@
 -- A setting stays between the limits of its travel, and grows with its numerator. Assumes nothing.
-use Rattle.std.proofs.Common.{ℕ, zero, suc, ◌+◌, ◌*◌, ◌/◌, ◌<◌, ◌≤◌, List, length, get_or, set, sym, subst, ⊎_elim, le_trans, mul-le-mul_right, mul_comm, mul-lt-mul_of_pos_right, le-div_iff_mul-le, div-mul-le_self, arith}
+use Rattle.std.proofs.Common.{◌≡◌, ℕ, zero, suc, ◌+◌, ◌*◌, ◌/◌, ◌^◌, ◌<◌, ◌≤◌, List, length, get_or, set, ap₂, sym, ◌∙◌, subst, ⊎_elim, le_trans, mul-le-mul_right, mul_comm, mul-lt-mul_of_pos_right, le-div_iff_mul-le, div-mul-le_self, arith}
 use native.Mathlib.Nat.{div-zero}
 use Rattle.std.proofs.lemmas.Nat.{div_below}
 use Rattle.std.proofs.lemmas.List.{get_or_default, get_or-set_other, get_or-set_same}
 use Rattle.std.proofs.lemmas.Bool.{cases_eq}
+use Rattle.base.specs.Shapes.{HasShape}
+use Rattle.base.specs.declared.limits.Shape.{Shape}
 use Rattle.checks.specs.declared.travel.Travel.{Travel}
 use Rattle.checks.specs.Settings.{Grows, Scaled, Scales}
 
@@ -32,3 +34,7 @@ scaled_more Q n y numerators travel out room there is before j t h =
     (λ e. subst (λ i. Scales Q (get_or travel i t) (get_or numerators i 0) (get_or (set out n y) i 0)) (sym e)
     (rw (get_or-set_same out n y 0 room, get_or_default travel n t still there) is))
     (λ ne. rw (get_or-set_other out n j y 0 ne) (before j t (omega arith))) (cases_eq j n)
+
+-- the positions of a shape, by the numbers that it was made from
+pub positions_of : {q M s : ℕ} (x : Shape) → HasShape q M s x → x.positions ≡ q ^ M
+positions_of x has = x.count ∙ ap₂ (λ a b. a ^ b) has.q_is has.digits_are

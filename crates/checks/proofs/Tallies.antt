@@ -3,8 +3,9 @@
 -- and stays below the number of cells. One point more adds 1 to the counter of its cell, and a counter is at most the number of
 -- points.
 -- Assumes nothing.
-use Rattle.std.proofs.Common.{◌≡◌, ℕ, zero, suc, ◌+◌, ◌-◌, ◌*◌, ◌/◌, ◌^◌, ◌<◌, ◌≤◌, Bool, cond, eqb, ◌≢◌, List, [], ◌∷◌, ◌++◌, length, get_or, take, drop, set, sym, refl, ap, ◌∙◌, subst, ap₂, ⊎_elim, add-zero, mul-le-mul_right, suc-mul, mul_comm, lt_of_mul-lt-mul_right, pow-suc, zero-mul, add-one, arith, pow-add, below_more}
-use native.Mathlib.Nat.{one-le-pow, pow-le-pow_right, pow-zero}
+use Rattle.std.proofs.Common.{◌≡◌, ℕ, zero, suc, ◌+◌, ◌-◌, ◌*◌, ◌/◌, ◌%◌, ◌^◌, ◌<◌, ◌≤◌, Bool, cond, eqb, List, [], ◌∷◌, ◌++◌, length, get_or, take, drop, set, sym, refl, ap, ◌∙◌, subst, ap₂, ⊎_elim, add-zero, mul-le-mul_right, suc-mul, mul_comm, lt_of_mul-lt-mul_right, zero-mul, add-one, arith, pow-add}
+use native.Mathlib.Nat.{one-le-pow, pow-le-pow_right}
+use Rattle.std.proofs.Math.Nat.{mod-eq_of_lt}
 use Rattle.std.proofs.lemmas.Nat.{div_below, mul-add-lt}
 use Rattle.std.proofs.lemmas.List.FromFn.{map-range_with_len_more, length-map-range_with_len}
 use Rattle.std.proofs.lemmas.List.{drop_at, drop-drop, drop_more, get_or-drop, get_or-set_other, get_or-set_same, get_or-take, length-append, length-drop, length-take, take_at, take_more}
@@ -13,6 +14,9 @@ use Rattle.std.specs.Slice.Iter.{chunks_exact_remainder, chunks_exact_rest, chun
 use Rattle.std.specs.declared.slice.ChunksExact.{ChunksExact}
 use Rattle.base.specs.Digits.{AllDigits}
 use Rattle.base.specs.Nets.{count, total}
+use Rattle.std.specs.Fn.{Called}
+use Rattle.std.specs.Array.{IsFromFnResultFrom}
+use denote.Param.Members.{Mut}
 use Rattle.checks.specs.Counting.{cell_of, points_of}
 use Rattle.checks.specs.declared.grid.Grid.{Grid}
 
@@ -37,28 +41,22 @@ total_more ds j h = ap total (take_more ds j 0 h) ∙ total_push (take j ds) (ge
 
 -- ---- powers of q
 
-power_more : (q k : ℕ) → q ^ (k + 1) ≡ q ^ k * q
-power_more q k = ap (λ n. q ^ n) (add-one k) ∙ pow-suc q k
+-- what calls of a function that does not change gave, one at each index
+pub made_at : {F : Type 0} (g : Mut F (ℕ × Unit {0}) ℕ) (f : F) (h : ℕ → ℕ) (ys : List ℕ) (i n : ℕ)
+    → ((k y : ℕ) (u : F) → Called g f (k, tt) y u → (u ≡ f) × (y ≡ h k)) → IsFromFnResultFrom g f ys i n
+    → (k : ℕ) → i ≤ k → k < i + n → get_or ys k 0 ≡ h k
+made_at g f h ys i zero each made k low high = absurd (omega arith)
+made_at g f h ys i (suc n) each made k low high =
+    let told = each i made.1 made.0 made.3 in
+    ⊎_elim
+    (λ e. subst (λ j. get_or ys j 0 ≡ h j) (sym e) (made.2.1 0 ∙ told.1))
+    (λ ne. made_at g f h ys (i + 1) n each (subst (λ u. IsFromFnResultFrom g u ys (i + 1) n) told.0 made.4) k (omega arith) (omega arith))
+    (cases_eq k i)
 
--- the powers up to q^i are in a list
-abbrev pub PowersTo : ℕ → ℕ → List ℕ → Type 0
-PowersTo q i powers = (k : ℕ) → k < i + 1 → get_or powers k 0 ≡ q ^ k
-
-pub first_power : (q : ℕ) (rest : List ℕ) → PowersTo q 0 (1 ∷ rest)
-first_power q rest zero h = sym (pow-zero q)
-first_power q rest (suc k) h = omega arith
-
-pub next_power_fits : (q M i r : ℕ) (powers : List ℕ) → 2 ≤ q → q ^ M ≤ 2 ^ 32 → i < M → r ≡ q → PowersTo q i powers
-    → get_or powers i 0 * r ≤ 2 ^ 32
-next_power_fits q M i r powers hq fits h is before =
-    rw (is, before i (omega arith), ← power_more q i) (omega (arith, fits, pow-le-pow_right {n = q} (omega arith) {i = i + 1} {j = M} (omega arith)))
-
-pub powers_more : (q i r : ℕ) (powers : List ℕ) → i + 1 < length powers → r ≡ q → PowersTo q i powers
-    → PowersTo q (i + 1) (set powers (i + 1) (get_or powers i 0 * r))
-powers_more q i r powers h is before =
-    below_more _ _
-    (λ k l. let other : k ≢ i + 1 = omega arith in rw get_or-set_other (before k l))
-    (get_or-set_same powers (i + 1) (get_or powers i 0 * r) 0 h ∙ ap₂ (λ x y. x * y) (before i (omega arith)) is ∙ sym (power_more q i))
+-- a power of q up to q^M, worked out modulo 2^64, is itself
+pub power_wraps_to_itself : (q M i r : ℕ) → 2 ≤ q → q ^ M ≤ 2 ^ 32 → i ≤ M → r ≡ q → r ^ i % 2 ^ 64 ≡ q ^ i
+power_wraps_to_itself q M i r base fits low is =
+    rw is (mod-eq_of_lt (omega (arith, fits, pow-le-pow_right {n = q} (omega arith) {i = i} {j = M} low)))
 
 -- q^0 to q^M are in a list, none above 2^32
 pub record Powers (q M : ℕ) (powers : List ℕ) : Type 0 where
@@ -66,8 +64,8 @@ pub record Powers (q M : ℕ) (powers : List ℕ) : Type 0 where
   pub fits : q ^ M ≤ 2 ^ 32
   pub are : (k : ℕ) → k ≤ M → get_or powers k 0 ≡ q ^ k
 
-pub grid_powers : (g : Grid) → Powers g.q g.digits g.powers
-grid_powers g = record { some = omega (arith, g.base.0); fits = g.width.1; are = g.powers_are }
+pub grid_powers : (g : Grid) → Powers g.shape.q g.shape.digits g.powers
+grid_powers g = record { some = omega (arith, g.shape.base.0); fits = g.shape.width.1; are = g.powers_are }
 
 pub cells_fit : (q M : ℕ) (powers ds : List ℕ) (j : ℕ) → Powers q M powers → total ds ≤ M → q ^ total (take j ds) ≤ 2 ^ 32
 cells_fit q M powers ds j p h =
@@ -137,10 +135,6 @@ count_within_length P (x ∷ xs) =
 abbrev pub Counted : ℕ → ℕ → ℕ → List ℕ → ℕ → List ℕ → List ℕ → Type 0
 Counted q M s counts n points counters =
     (c : ℕ) → c < q ^ total counts → get_or counters c 0 ≡ count (λ p. eqb (cell_of q M 0 counts p) c) (points_of s n points)
-
--- the counters past those of the cells are as they were
-abbrev pub Kept : ℕ → List ℕ → List ℕ → List ℕ → Type 0
-Kept q counts before after = (c : ℕ) → q ^ total counts ≤ c → get_or after c 0 ≡ get_or before c 0
 
 -- ---- the points one after the other
 
@@ -226,8 +220,3 @@ counted_more q M s counts n points point counters cell room told next before c h
     (λ ne. get_or-set_other counters cell c (get_or counters cell 0 + 1) 0 ne ∙ before c h ∙ sym (add-zero _)
     ∙ ap (λ y. count P (points_of s n points) + y) (sym (cond-false (P x) 1 0 (ne_eqb _ c (λ e. ne (sym e ∙ sym is)))))
     ∙ sym more) (cases_eq c cell)
-
-pub kept_more : (q : ℕ) (counts before counters : List ℕ) (cell y : ℕ) → cell < q ^ total counts → Kept q counts before counters
-    → Kept q counts before (set counters cell y)
-kept_more q counts before counters cell y below kept c h =
-    let other : c ≢ cell = omega arith in get_or-set_other counters cell c y 0 other ∙ kept c h

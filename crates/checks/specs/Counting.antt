@@ -19,11 +19,15 @@ cell_of q M acc (d ∷ ds) point = cell_of q M (acc * q ^ d + slice_index point 
 abbrev pub InReach : ℕ → ℕ → ℕ → Type 0
 InReach q M m = (m ≤ M) × (q ^ m ≤ 4096)
 
--- the tests of the check: q, M and s; m; the lengths of points and counters, which depend on m; each numerator
-abbrev pub check_tests : ℕ → ℕ → ℕ → ℕ → List ℕ → ℕ → List Test
-check_tests q M s m points counters =
-    test (Limits q M s → ⊥) (refusal 2 4 255 0) ∷ test (InReach q M m → ⊥) (refusal 8 4 255 0)
+-- the tests of a block: m; the lengths of points and counters, which depend on m; each numerator
+abbrev pub block_tests : ℕ → ℕ → ℕ → ℕ → List ℕ → ℕ → List Test
+block_tests q M s m points counters =
+    test (InReach q M m → ⊥) (refusal 8 4 255 0)
     ∷ test ((length points ≡ q ^ m * s) × (q ^ m ≤ counters) → ⊥) (refusal 3 4 255 0) ∷ digit_tests (q ^ M) 4 points
+
+-- the tests of the check: q, M and s; then those of the block
+abbrev pub check_tests : ℕ → ℕ → ℕ → ℕ → List ℕ → ℕ → List Test
+check_tests q M s m points counters = test (Limits q M s → ⊥) (refusal 2 4 255 0) ∷ block_tests q M s m points counters
 
 -- the first n counters are 0, and the rest are as they were
 abbrev pub Cleared : ℕ → List ℕ → List ℕ → Type 0

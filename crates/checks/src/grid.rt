@@ -1,19 +1,59 @@
-//! The numbers of a set of points, with the powers of q.
-ghost use Rattle.std.specs.Prelude.{◌≡◌, ℕ, ◌^◌, ◌≤◌, slice_index};
-ghost use Rattle.base.specs.Tables.{BaseLimits, CoordinateLimits, DigitLimits};
+//! A shape with the powers of its q, and the cells of a split.
+ghost use Rattle.std.specs.Prelude.{◌≡◌, ℕ, ◌^◌, ◌<◌, ◌≤◌, length, slice_index};
+ghost use Rattle.std.specs.Option.{SomeIff};
+ghost use Rattle.base.specs.Digits.{AllDigits};
+ghost use Rattle.base.specs.Nets.{total};
+ghost use Rattle.checks.specs.Counting.{InReach, cell_of};
 
-mod powers;
+use base::limits::Shape;
+use std::array;
 
-/// q, the numbers of digits and coordinates, within their limits, and q^0 to q^digits.
+/// A shape, with q^0 to q^digits.
 #[derive(Clone, Copy)]
 pub(crate) struct Grid {
-    pub(crate) q: u8,
-    pub(crate) digits: u8,
-    pub(crate) coordinates: u8,
+    pub(crate) shape: Shape,
+    // A fixed array, since nothing may ask for heap memory.
     pub(crate) powers: [u64; 33],
-    ghost base: { BaseLimits q },
-    ghost width: { DigitLimits q digits },
-    ghost narrow: { digits ≤ 32 },
-    ghost dimension: { CoordinateLimits coordinates },
-    ghost powers_are: { (i : ℕ) → i ≤ digits → slice_index powers i ≡ q ^ i },
+    ghost powers_are: { (i : ℕ) → i ≤ shape.digits → slice_index powers i ≡ shape.q ^ i },
+}
+
+impl Grid {
+    // The grid of a shape.
+    pub(crate) fn new(shape: Shape) -> Grid
+        ensures { result.shape ≡ shape }
+    {
+        let q = u64::from(shape.q);
+        Grid {
+            shape,
+            powers: array::from_fn(|i| q.wrapping_pow(i as u32)),
+        }
+    }
+
+    // The number of points of a block, q^m; none where m or q^m is too large.
+    pub(crate) fn block_size(&self, m: u8) -> Option<usize>
+        ensures { SomeIff result (InReach self.now.shape.q self.now.shape.digits m) (self.now.shape.q ^ m) }
+    {
+        if m > self.shape.digits {
+            return None;
+        }
+        let size = self.powers[m as usize];
+        if size <= 4096 { Some(size as usize) } else { None }
+    }
+
+    // The number of a point's cell.
+    pub(crate) fn cell_of(&self, counts: &[u8], point: &[u32]) -> u64
+        requires each { length point.now ≡ length counts.now }
+        requires within { total counts.now ≤ self.now.shape.digits }
+        requires digits { AllDigits (self.now.shape.q ^ self.now.shape.digits) point.now }
+        ensures value { result ≡ cell_of self.now.shape.q self.now.shape.digits 0 counts.now point.now }
+        ensures bound { result < self.now.shape.q ^ total counts.now }
+    {
+        let digits = self.shape.digits as usize;
+        let mut cell = 0u64;
+        for (d, x) in counts.iter().zip(point) {
+            let d = *d as usize;
+            cell = cell * self.powers[d] + u64::from(*x) / self.powers[digits - d];
+        }
+        cell
+    }
 }

@@ -1,8 +1,8 @@
 //! The counting check of points, and travel scaling. They know nothing of fields, orders or tables.
 #![tactic(auto)]
 
+mod block;
 pub mod check;
 mod grid;
 pub mod numerators;
-mod tally;
 pub mod travel;

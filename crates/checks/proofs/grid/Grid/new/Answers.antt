@@ -1,19 +1,13 @@
-use Rattle.std.proofs.Common.{refl}
-use Rattle.base.proofs.Widths.{at_most_32_digits}
+use Rattle.std.proofs.Common.{◌%◌, ◌∙◌, ◌^◌, arith, rules}
+use Rattle.checks.proofs.Tallies.{made_at, power_wraps_to_itself}
 use Rattle.checks.proofs.grid.Grid.new.Goals as goal
-
-pub powers_of-powers-requires : goal.powers_of-powers-requires
-powers_of-powers-requires c =
-    let limits = c.if-not-keep_limits.ensures.0 refl in
-    (limits.1, (limits.0.0, at_most_32_digits c.args.q c.args.digits limits.0.0 limits.1.1))
 
 pub invariant_of-result : goal.invariant_of-result
 invariant_of-result c =
-    let limits = c.if-not-keep_limits.ensures.0 refl in
+    let x = c.args.shape in
     record {
-      base = limits.0;
-      width = limits.1;
-      narrow = at_most_32_digits c.args.q c.args.digits limits.0.0 limits.1.1;
-      dimension = limits.2;
-      powers_are = c.powers_of-powers.ensures;
+      powers_are = λ i low.
+          made_at _ _ (λ k. c.from-q.result ^ k % 2 ^ 64) _ 0 33 (λ k y u h. (search rules, search rules)) c.from_fn.ensures.items.each i (omega arith)
+              (omega (arith, x.narrow))
+          ∙ power_wraps_to_itself x.q x.digits i c.from-q.result x.base.0 x.width.1 low c.from-q.ensures;
     }

@@ -1,6 +1,0 @@
-use Rattle.std.proofs.Common.{◌≡◌, ℕ, ◌<◌, get_or}
-use Rattle.checks.proofs.tally.all_equal.Given as goal
-
--- the counters so far have the value
-abbrev pub invariant-loop-counter : goal.invariant-loop-counter
-invariant-loop-counter l = (c : ℕ) → c < l.counter-index → get_or l.counters c 0 ≡ l.expected

@@ -1,6 +1,0 @@
-use Rattle.std.proofs.Common.{◌≡◌, ℕ, ◌<◌, get_or}
-use Rattle.checks.proofs.tally.clear.Given as goal
-
--- the counters so far are 0
-abbrev pub invariant-loop-counter : goal.invariant-loop-counter
-invariant-loop-counter l = (c : ℕ) → c < l.counter-index → get_or l.counters c 0 ≡ 0
