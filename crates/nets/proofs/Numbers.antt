@@ -1,5 +1,5 @@
 -- Words and numbers: the words of k digits, read as numbers in base q, are exactly the numbers below q^k. Assumes nothing.
-use Rattle.std.proofs.Common.{◌≡◌, ℕ, zero, suc, ◌+◌, ◌-◌, ◌*◌, ◌/◌, ◌%◌, ◌^◌, ◌<◌, ◌≤◌, List, [], ◌∷◌, take, sym, refl, ap, ◌∙◌, subst, ap₂, mod-lt, mul_assoc, mul_comm, add_comm, pow-suc, div-add-mod', div-one, arith, pow-add}
+use Rattle.std.proofs.Common.{◌≡◌, ℕ, zero, suc, ◌+◌, ◌-◌, ◌*◌, ◌/◌, ◌%◌, ◌^◌, ◌<◌, ◌≤◌, List, [], ◌∷◌, length, take, sym, refl, ap, ◌∙◌, subst, ap₂, mod-eq_of_lt, mod-lt, mul_assoc, mul_comm, add_comm, pow-suc, div-add-mod', div-one, arith, pow-add}
 use native.Mathlib.Nat.{add-mul-mod_self_right, div-div-eq-div-mul, div-eq_of_lt, mul-add-div_right, one-le-pow, pow-zero}
 use Rattle.std.proofs.lemmas.Nat.{div_below, div-mul-add, mod-mul-add, mul-add-lt}
 use Rattle.std.proofs.lemmas.List.{length-take-le}
@@ -38,6 +38,10 @@ word_number_below q (suc k) (x ∷ xs) w =
     rw (pow-suc q k)
     (subst (λ l. x * q ^ l + numerator q xs < q ^ k * q) (sym tail.0)
     (mul-add-lt x (q ^ k) (numerator q xs) q (word_head q k x xs w) (word_number_below q k xs tail)))
+
+-- the number of a word of digits that 32 bits hold
+pub number_in_32_bits : (q : ℕ) (w : List ℕ) → AllDigits q w → q ^ length w ≤ 2 ^ 32 → numerator q w % 2 ^ 32 ≡ numerator q w
+number_in_32_bits q w digits fits = mod-eq_of_lt (omega (arith, word_number_below q (length w) w (refl, digits), fits))
 
 pub word_of_number : (q k n : ℕ) → 1 ≤ q → n < q ^ k → Word q k (word_of q k n)
 word_of_number q zero n some h = (refl, λ i l. elim l [ ])

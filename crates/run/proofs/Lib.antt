@@ -1,8 +1,8 @@
 pub mod Calling
 pub mod Changes
 pub mod Histories
-pub mod Horner
 pub mod Logging
 pub mod Moving
 pub mod Points
+pub mod Same
 pub mod Standing

@@ -3,15 +3,13 @@
 use Rattle.std.proofs.Common.{◌≡◌, ℕ, ◌+◌, ◌<◌, ◌≤◌, List, [], ◌∷◌, ◌++◌, length, get_or, take, set, Option, sym, refl, ap, ◌∙◌, subst, ap₂, arith}
 use Rattle.std.proofs.lemmas.List.{length-take-le, take_all, take_more, take_more_set}
 use Rattle.base.specs.Tables.{TableModel}
-use Rattle.tables.specs.declared.table.Table.{Table}
 use Rattle.run.specs.Law.{History, Log}
-use Rattle.run.specs.Replays.{Replayed, answer_of, log_of}
+use Rattle.run.specs.Replays.{Replayed, Reply, answer_of, log_of}
 use Rattle.run.specs.Runs.{Answer, Answers, Parts, View}
-use Rattle.run.specs.States.{Consistent, Opens, view}
-use Rattle.run.specs.declared.cursor.Cursor.{Cursor}
+use Rattle.run.specs.States.{Opens, view}
+use Rattle.run.specs.declared.opened.Open.{Open}
 use Rattle.run.specs.declared.replay.Call.{Call}
 use Rattle.run.specs.declared.replay.Call.TheVariants.{Step}
-use Rattle.run.specs.declared.replay.Reply.{Reply}
 
 -- one call more
 pub history_more : (P : Parts) (v u w : View) (h : Log) (c : Call) (a : Answer) → History P v h u → Answers P u c a w
@@ -44,9 +42,8 @@ pub log_all : (calls : List Call) (log : List Reply) (i : ℕ) → length calls 
 log_all calls log i h same = ap₂ log_of (take_all i calls h) (take_all i log (omega (arith, h, same)))
 
 -- after a table was opened, the calls made are a replay
-pub replayed : (P : Parts) (T : TableModel) (h : Log) (t u : Option Table) (c d : Cursor) → Opens P T t c
-    → (Consistent P t c → History P (view t c) h (view u d) × Consistent P u d) → Replayed P T h u d
-replayed P T h t u c d opens made =
-    let told = made opens.consistent in
-    let history = subst (λ v. History P v h (view u d)) opens.means told.0 in
-    record { law = opens.law h (view u d) history; history = history; consistent = told.1 }
+pub replayed : (P : Parts) (T : TableModel) (h : Log) (before after : Option Open) → Opens P T before
+    → History P (view before) h (view after) → Replayed P T h after
+replayed P T h before after opens made =
+    let history = subst (λ v. History P v h (view after)) opens.means made in
+    record { law = opens.law h (view after) history; history = history }

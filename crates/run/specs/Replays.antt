@@ -1,30 +1,34 @@
 -- A list of calls that is made, and its log. Assumes nothing.
-use Rattle.std.specs.Prelude.{ℕ, List, [], ◌∷◌, ◌++◌, take, Option, ◌≢◌}
+use Rattle.std.specs.Prelude.{ℕ, List, [], ◌∷◌, ◌++◌, take, Ok, Err, Option, Result, ◌≢◌}
 use Rattle.base.specs.Faults.{refusal, stated}
 use Rattle.base.specs.Tables.{TableModel}
+use Rattle.base.specs.declared.faults.Fault.{Fault}
 use Rattle.base.specs.Tests.{Test, test}
 use Rattle.tables.specs.Sobol.{sobol_table, sobol_tests}
-use Rattle.tables.specs.declared.table.Table.{Table}
 use Rattle.run.specs.Law.{History, Law, Log}
 use Rattle.run.specs.Runs.{Answer, Parts, jumped, least, open_tests, opened, pointed, refused, stepped}
-use Rattle.run.specs.States.{Consistent, view}
-use Rattle.run.specs.declared.cursor.Cursor.{Cursor}
+use Rattle.run.specs.States.{view}
+use Rattle.run.specs.declared.opened.Open.{Open}
 use Rattle.run.specs.declared.replay.Call.{Call}
 use Rattle.run.specs.declared.replay.Point.{Point}
-use Rattle.run.specs.declared.replay.Reply.{Reply}
-use Rattle.run.specs.declared.replay.Reply.TheVariants.{Stepped, Jumped, Pointed, Least, Refused}
+use Rattle.run.specs.declared.replay.Outcome.{Outcome}
+use Rattle.run.specs.declared.replay.Outcome.TheVariants.{Stepped, Jumped, Pointed, Least}
 
 -- the numerators of a point
 abbrev pub numerators_of : Point → List ℕ
 numerators_of x = take x.coordinates x.numerators
 
+-- a reply, since antt has no name for an alias
+abbrev pub Reply : Type 0
+Reply = Result Outcome Fault
+
 -- what a reply says
 abbrev pub answer_of : Reply → Answer
-answer_of (Stepped position changed point) = stepped position changed (numerators_of point)
-answer_of Jumped = jumped
-answer_of (Pointed point) = pointed (numerators_of point)
-answer_of (Least t) = least t
-answer_of (Refused fault) = refused (stated fault)
+answer_of (Ok (Stepped position changed point)) = stepped position changed (numerators_of point)
+answer_of (Ok Jumped) = jumped
+answer_of (Ok (Pointed point)) = pointed (numerators_of point)
+answer_of (Ok (Least t)) = least t
+answer_of (Err fault) = refused (stated fault)
 
 -- calls beside the replies to them
 abbrev pub log_of : List Call → List Reply → Log
@@ -41,8 +45,7 @@ abbrev pub replay_list_tests : Parts → List ℕ → ℕ → ℕ → ℕ → Li
 replay_list_tests P list M calls places =
     test (places ≢ calls) (refusal 3 3 255 0) ∷ (sobol_tests list M ++ open_tests P (sobol_table list M))
 
--- a list of calls was made after a table was opened: the law holds of the log; the log is a history, and leaves the run as it stands
-pub record Replayed (P : Parts) (T : TableModel) (h : Log) (t : Option Table) (c : Cursor) : Type 0 where
+-- a list of calls was made after a table was opened: the law holds of the log, and the log is a history that ends where the run stands
+pub record Replayed (P : Parts) (T : TableModel) (h : Log) (state : Option Open) : Type 0 where
   pub law : Law P T h
-  pub history : History P (opened T 0) h (view t c)
-  pub consistent : Consistent P t c
+  pub history : History P (opened T 0) h (view state)

@@ -8,33 +8,31 @@ use Rattle.tables.specs.Table.{model}
 use Rattle.run.specs.Law.{LawOfHistories}
 use Rattle.run.specs.Present.{Present}
 use Rattle.run.specs.Runs.{Agree, Answer, Parts, View, empty, jumped, least, opened, pointed, refused, stepped}
-use Rattle.run.specs.declared.cursor.Cursor.{Cursor}
-use Rattle.tables.specs.declared.table.Table.{Table}
+use Rattle.run.specs.declared.opened.Open.{Open}
 
--- what a table with a cursor means: the table, and the cursor's position
-abbrev pub view_of : Table → Cursor → View
-view_of t c = opened (model t) c.position
+-- what an open run means: its table, and its position
+abbrev pub view_of : Open → View
+view_of o = opened (model o.table) o.position
 
 -- what the state of a run means
-abbrev pub view : Option Table → Cursor → View
-view None c = empty
-view (Some t) c = view_of t c
+abbrev pub view : Option Open → View
+view None = empty
+view (Some o) = view_of o
 
--- a cursor is consistent with a table and the parts of a run: they agree with the table in q, M and s, and the coordinates show the
+-- an open run shows its position, with the parts of the run: they agree with the table in q, M and s, and the coordinates show the
 -- rows at the index of the position, unless every position has been handed out
-pub record Shows (P : Parts) (t : Table) (c : Cursor) : Type 0 where
-  pub agree : Agree P (model t)
-  pub present : c.position < t.q ^ t.digits → Present P.field (model t) (digit t.q (P.order.index c.position)) c.coordinates
+pub record Shows (P : Parts) (o : Open) : Type 0 where
+  pub agree : Agree P (model o.table)
+  pub present : o.position < (model o.table).q ^ (model o.table).digits
+      → Present P.field (model o.table) (digit (model o.table).q (P.order.index o.position)) o.coordinates
 
--- a state is consistent with the parts of its run. Every run that was made and changed by its calls is
-abbrev pub Consistent : Parts → Option Table → Cursor → Type 0
-Consistent P None c = Unit {0}
-Consistent P (Some t) c = Shows P t c
+-- a state is consistent with the parts of its run: where a table is open, it shows its position
+abbrev pub Consistent : Parts → Option Open → Type 0
+Consistent P state = (o : Open) → state ≡ Some o → Shows P o
 
--- a table was opened: the run means it at position 0 and is consistent, and the law holds of every history from there
-pub record Opens (P : Parts) (T : TableModel) (t : Option Table) (c : Cursor) : Type 0 where
-  pub means : view t c ≡ opened T 0
-  pub consistent : Consistent P t c
+-- a table was opened: the run means it at position 0, and the law holds of every history from there
+pub record Opens (P : Parts) (T : TableModel) (state : Option Open) : Type 0 where
+  pub means : view state ≡ opened T 0
   pub law : LawOfHistories P T
 
 -- what the result of a step says, with what the buffer holds afterwards

@@ -5,8 +5,10 @@ ghost use Rattle.tables.specs.Table.{model};
 ghost use Rattle.run.specs.Present.{Changed, Moved, Present};
 
 use crate::coordinate::Coordinate;
+use crate::opened::Setup;
 use fields::field::Field;
 use orders::order::Order;
+use scramblers::scrambler::Scrambler;
 use tables::table::Table;
 
 // Changes every coordinate for one index digit that changed.
@@ -19,9 +21,9 @@ fn change_all<F: Field>(
 )
     ensures { column < (model table.now).digits → Changed (F.Field.means field.now) (model table.now) column by (model table.now).coordinates coordinates.old coordinates.new }
 {
-    for j in 0..table.coordinates() {
-        if let Some(digits) = table.column(j, column) {
-            coordinates[j as usize].change(field, digits, by);
+    for (j, coordinate) in coordinates.iter_mut().enumerate() {
+        if let Some(digits) = table.column(j as u8, column) {
+            coordinate.change(field, digits, by);
         }
     }
 }
@@ -72,20 +74,19 @@ pub(crate) fn present<F: Field>(field: &F, table: &Table, index: u64) -> [Coordi
 }
 
 /// Moves the coordinates on to the next position, unless this is the last one; answers how many index digits change.
-pub(crate) fn advance_one<F: Field, O: Order>(
-    field: &F,
-    order: &O,
+pub(crate) fn advance_one<F: Field, O: Order, S: Scrambler>(
+    setup: &Setup<F, O, S>,
     table: &Table,
     coordinates: &mut [Coordinate; 8],
     position: u64,
 ) -> u8
     requires { position < (model table.now).q ^ (model table.now).digits }
-    ensures moved { position + 1 < (model table.now).q ^ (model table.now).digits → Moved (F.Field.means field.now) (model table.now) ((O.Order.means order.now).index position) ((O.Order.means order.now).index (position + 1)) coordinates.old coordinates.new result }
+    ensures moved { position + 1 < (model table.now).q ^ (model table.now).digits → Moved (F.Field.means setup.now.field) (model table.now) ((O.Order.means setup.now.order).index position) ((O.Order.means setup.now.order).index (position + 1)) coordinates.old coordinates.new result }
     ensures last { (model table.now).q ^ (model table.now).digits ≤ position + 1 → result ≡ 0 }
 {
     if position + 1 >= table.positions() {
         return 0;
     }
-    let (old, new) = (order.index(position), order.index(position + 1));
-    advance(field, table, coordinates, old, new)
+    let (old, new) = (setup.order.index(position), setup.order.index(position + 1));
+    advance(&setup.field, table, coordinates, old, new)
 }

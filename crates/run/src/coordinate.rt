@@ -15,8 +15,8 @@ impl Coordinate {
         requires { length column.now ≡ 32 }
         ensures { (k : ℕ) → k < 32 → slice_index self.new.digits k ≡ (F.Field.means field.now).sum (slice_index self.old.digits k) ((F.Field.means field.now).product (slice_index column.now k) by) }
     {
-        for k in 0..32 {
-            self.digits[k] = field.add(self.digits[k], field.mul(column[k], by));
+        for (k, digit) in self.digits.iter_mut().enumerate() {
+            *digit = field.add(*digit, field.mul(column[k], by));
         }
     }
 }

@@ -3,7 +3,7 @@
 
 pub(crate) mod advance;
 pub(crate) mod coordinate;
-pub(crate) mod cursor;
+pub(crate) mod opened;
 pub(crate) mod point;
 pub mod replay;
 pub mod run;

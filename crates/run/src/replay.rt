@@ -1,13 +1,12 @@
 //! A list of calls, made one after the other, and the log of their replies.
-ghost use Rattle.std.specs.Prelude.{◌≡◌, ◌≤◌, false, length, is_ok};
+ghost use Rattle.std.specs.Prelude.{◌≡◌, ◌≤◌, length, OnErr};
 ghost use Rattle.base.specs.Tables.{SameTable, TableModel};
 ghost use Rattle.base.specs.Tests.{Gives};
 ghost use Rattle.tables.specs.Sobol.{sobol_table};
 ghost use Rattle.tables.specs.Table.{model};
 ghost use Rattle.run.specs.Law.{History};
-ghost use Rattle.run.specs.Replays.{Replayed, answer_of, log_of, numerators_of, replay_list_tests, replay_tests};
 ghost use Rattle.run.specs.Runs.{Answers, parts};
-ghost use Rattle.run.specs.States.{Consistent, view};
+ghost use Rattle.run.specs.States.{view};
 ghost use Rattle.run.specs.declared.replay.Call.TheVariants.{Step, At};
 
 use crate::run::Run;
@@ -18,7 +17,7 @@ use scramblers::scrambler::Scrambler;
 use tables::table::Table;
 
 /// A call of a run. `room` is the number of places of the buffer that it is given.
-#[derive(Clone, Copy)]
+#[derive(Clone, Copy, PartialEq, Eq, Debug)]
 pub enum Call {
     Step { room: u8 },
     Jump { position: u64 },
@@ -26,16 +25,18 @@ pub enum Call {
     Verdict { m: u8 },
 }
 
-/// The numerators of a point: the first `coordinates` of eight.
+/// The numerators of a point.
 #[derive(Clone, Copy)]
 pub struct Point {
-    pub numerators: [u32; 8],
-    pub coordinates: u8,
+    // No point asks for memory: the numerators past the coordinates are spare.
+    numerators: [u32; 8],
+    coordinates: u8,
+    ghost few: { coordinates ≤ 8 },
 }
 
-/// What a run answers to a call.
+/// What a run answers to a call that it accepts.
 #[derive(Clone, Copy)]
-pub enum Reply {
+pub enum Outcome {
     Stepped {
         position: u64,
         changed: u8,
@@ -48,82 +49,83 @@ pub enum Reply {
     Least {
         t: u8,
     },
-    Refused {
-        fault: Fault,
-    },
 }
 
-// The point in a buffer of at most eight places.
-fn point_of(buffer: &[u32]) -> Point
-    ensures { length buffer.now ≤ 8 → numerators_of result ≡ buffer.now }
-{
-    let mut numerators = [0u32; 8];
-    let mut coordinates = 0u8;
-    for numerator in buffer {
-        if coordinates < 8 {
-            numerators[coordinates as usize] = *numerator;
-            coordinates += 1;
+/// What a run answers to a call.
+pub type Reply = Result<Outcome, Fault>;
+
+impl Point {
+    ghost use Rattle.run.specs.Replays.{numerators_of};
+
+    // The point in a buffer; what is past the eighth place is left out.
+    fn new(buffer: &[u32]) -> Point
+        ensures { length buffer.now ≤ 8 → numerators_of result ≡ buffer.now }
+    {
+        let coordinates = buffer.len().min(8);
+        let mut numerators = [0u32; 8];
+        numerators[..coordinates].copy_from_slice(&buffer[..coordinates]);
+        Point {
+            numerators,
+            coordinates: coordinates as u8,
         }
     }
-    Point {
-        numerators,
-        coordinates,
+
+    /// The numerators, one for each coordinate.
+    pub fn numerators(&self) -> &[u32]
+        ensures { result.now ≡ numerators_of self.now }
+    {
+        &self.numerators[..self.coordinates as usize]
     }
 }
 
 impl<F: Field + Drop, O: Order + Drop, S: Scrambler + Drop> Run<F, O, S> {
+    ghost use Rattle.run.specs.Replays.{Replayed, answer_of, log_of, replay_list_tests, replay_tests};
+
     // A step into a buffer, and what it answers.
     fn step_reply(&mut self, buffer: &mut [u32]) -> Reply
-        ensures answer { Consistent (parts (F.Field.means self.old.field) (O.Order.means self.old.order) (S.Scrambler.means self.old.scrambler)) self.old.table self.old.cursor → Answers (parts (F.Field.means self.old.field) (O.Order.means self.old.order) (S.Scrambler.means self.old.scrambler)) (view self.old.table self.old.cursor) (Step (length buffer.old)) (answer_of result) (view self.new.table self.new.cursor) × Consistent (parts (F.Field.means self.old.field) (O.Order.means self.old.order) (S.Scrambler.means self.old.scrambler)) self.new.table self.new.cursor }
-        ensures same { (self.new.field ≡ self.old.field) × (self.new.order ≡ self.old.order) × (self.new.scrambler ≡ self.old.scrambler) }
+        ensures answer { Answers (parts (F.Field.means self.old.setup.field) (O.Order.means self.old.setup.order) (S.Scrambler.means self.old.setup.scrambler)) (view self.old.state) (Step (length buffer.old)) (answer_of result) (view self.new.state) }
+        ensures same { self.new.setup ≡ self.old.setup }
     {
-        match self.step(buffer) {
-            Ok((position, changed)) => Reply::Stepped {
-                position,
-                changed,
-                point: point_of(buffer),
-            },
-            Err(fault) => Reply::Refused { fault },
-        }
+        let (position, changed) = self.step(buffer)?;
+        Ok(Outcome::Stepped {
+            position,
+            changed,
+            point: Point::new(buffer),
+        })
     }
 
     // The point of a position in a buffer, and what it answers.
     fn at_reply(&self, position: u64, buffer: &mut [u32]) -> Reply
-        ensures { Consistent (parts (F.Field.means self.now.field) (O.Order.means self.now.order) (S.Scrambler.means self.now.scrambler)) self.now.table self.now.cursor → Answers (parts (F.Field.means self.now.field) (O.Order.means self.now.order) (S.Scrambler.means self.now.scrambler)) (view self.now.table self.now.cursor) (At position (length buffer.old)) (answer_of result) (view self.now.table self.now.cursor) }
+        ensures { Answers (parts (F.Field.means self.now.setup.field) (O.Order.means self.now.setup.order) (S.Scrambler.means self.now.setup.scrambler)) (view self.now.state) (At position (length buffer.old)) (answer_of result) (view self.now.state) }
     {
-        match self.at(position, buffer) {
-            Ok(()) => Reply::Pointed {
-                point: point_of(buffer),
-            },
-            Err(fault) => Reply::Refused { fault },
-        }
+        self.at(position, buffer)?;
+        Ok(Outcome::Pointed {
+            point: Point::new(buffer),
+        })
     }
 
     // Makes a call.
     fn make(&mut self, call: Call) -> Reply
-        ensures answer { Consistent (parts (F.Field.means self.old.field) (O.Order.means self.old.order) (S.Scrambler.means self.old.scrambler)) self.old.table self.old.cursor → Answers (parts (F.Field.means self.old.field) (O.Order.means self.old.order) (S.Scrambler.means self.old.scrambler)) (view self.old.table self.old.cursor) call (answer_of result) (view self.new.table self.new.cursor) × Consistent (parts (F.Field.means self.old.field) (O.Order.means self.old.order) (S.Scrambler.means self.old.scrambler)) self.new.table self.new.cursor }
-        ensures same { (self.new.field ≡ self.old.field) × (self.new.order ≡ self.old.order) × (self.new.scrambler ≡ self.old.scrambler) }
+        ensures answer { Answers (parts (F.Field.means self.old.setup.field) (O.Order.means self.old.setup.order) (S.Scrambler.means self.old.setup.scrambler)) (view self.old.state) call (answer_of result) (view self.new.state) }
+        ensures same { self.new.setup ≡ self.old.setup }
     {
         let mut buffer = [0u32; 256];
         match call {
-            Call::Step { room } => self.step_reply(&mut buffer[0..room as usize]),
-            Call::Jump { position } => match self.jump(position) {
-                Ok(()) => Reply::Jumped,
-                Err(fault) => Reply::Refused { fault },
-            },
-            Call::At { position, room } => self.at_reply(position, &mut buffer[0..room as usize]),
-            Call::Verdict { m } => match self.verdict(m) {
-                Ok(t) => Reply::Least { t },
-                Err(fault) => Reply::Refused { fault },
-            },
+            Call::Step { room } => self.step_reply(&mut buffer[..room as usize]),
+            Call::Jump { position } => {
+                self.jump(position)?;
+                Ok(Outcome::Jumped)
+            }
+            Call::At { position, room } => self.at_reply(position, &mut buffer[..room as usize]),
+            Call::Verdict { m } => Ok(Outcome::Least { t: self.verdict(m)? }),
         }
     }
 
     // Makes the calls, and writes what each answers.
     fn make_all(&mut self, calls: &[Call], log: &mut [Reply])
         requires { length log.old ≡ length calls.now }
-        ensures history { Consistent (parts (F.Field.means self.old.field) (O.Order.means self.old.order) (S.Scrambler.means self.old.scrambler)) self.old.table self.old.cursor → History (parts (F.Field.means self.old.field) (O.Order.means self.old.order) (S.Scrambler.means self.old.scrambler)) (view self.old.table self.old.cursor) (log_of calls.now log.new) (view self.new.table self.new.cursor) × Consistent (parts (F.Field.means self.old.field) (O.Order.means self.old.order) (S.Scrambler.means self.old.scrambler)) self.new.table self.new.cursor }
-        ensures same { (self.new.field ≡ self.old.field) × (self.new.order ≡ self.old.order) × (self.new.scrambler ≡ self.old.scrambler) }
+        ensures history { History (parts (F.Field.means self.old.setup.field) (O.Order.means self.old.setup.order) (S.Scrambler.means self.old.setup.scrambler)) (view self.old.state) (log_of calls.now log.new) (view self.new.state) }
+        ensures same { self.new.setup ≡ self.old.setup }
     {
         for (i, call) in calls.iter().enumerate() {
             log[i] = self.make(*call);
@@ -133,9 +135,10 @@ impl<F: Field + Drop, O: Order + Drop, S: Scrambler + Drop> Run<F, O, S> {
     /// Opens a table and makes the calls of a list, in order; the log holds what each answered. The law over every list of calls holds
     /// of this log.
     pub fn replay(&mut self, table: &Table, calls: &[Call], log: &mut [Reply]) -> Result<(), Fault>
-        ensures answer { Gives (replay_tests (parts (F.Field.means self.old.field) (O.Order.means self.old.order) (S.Scrambler.means self.old.scrambler)) (model table.now) (length calls.now) (length log.old)) result (λ _. Replayed (parts (F.Field.means self.old.field) (O.Order.means self.old.order) (S.Scrambler.means self.old.scrambler)) (model table.now) (log_of calls.now log.new) self.new.table self.new.cursor) }
-        ensures same { (self.new.field ≡ self.old.field) × (self.new.order ≡ self.old.order) × (self.new.scrambler ≡ self.old.scrambler) }
-        ensures refused { is_ok result ≡ false → (self.new ≡ self.old) × (log.new ≡ log.old) }
+        ensures answer { Gives (replay_tests (parts (F.Field.means self.old.setup.field) (O.Order.means self.old.setup.order) (S.Scrambler.means self.old.setup.scrambler)) (model table.now) (length calls.now) (length log.old)) result (λ _. Replayed (parts (F.Field.means self.old.setup.field) (O.Order.means self.old.setup.order) (S.Scrambler.means self.old.setup.scrambler)) (model table.now) (log_of calls.now log.new) self.new.state) }
+        ensures same { self.new.setup ≡ self.old.setup }
+        ensures refused { OnErr result (self.new ≡ self.old) }
+        ensures unwritten { OnErr result (log.new ≡ log.old) }
     {
         if log.len() != calls.len() {
             return Err(Fault::of(Kind::WrongLength, Layer::Run));
@@ -153,9 +156,10 @@ impl<F: Field + Drop, O: Order + Drop, S: Scrambler + Drop> Run<F, O, S> {
         calls: &[Call],
         log: &mut [Reply],
     ) -> Result<(), Fault>
-        ensures answer { Gives (replay_list_tests (parts (F.Field.means self.old.field) (O.Order.means self.old.order) (S.Scrambler.means self.old.scrambler)) list.now digits (length calls.now) (length log.old)) result (λ _. (T : TableModel) × SameTable T (sobol_table list.now digits) × Replayed (parts (F.Field.means self.old.field) (O.Order.means self.old.order) (S.Scrambler.means self.old.scrambler)) T (log_of calls.now log.new) self.new.table self.new.cursor) }
-        ensures same { (self.new.field ≡ self.old.field) × (self.new.order ≡ self.old.order) × (self.new.scrambler ≡ self.old.scrambler) }
-        ensures refused { is_ok result ≡ false → (self.new ≡ self.old) × (log.new ≡ log.old) }
+        ensures answer { Gives (replay_list_tests (parts (F.Field.means self.old.setup.field) (O.Order.means self.old.setup.order) (S.Scrambler.means self.old.setup.scrambler)) list.now digits (length calls.now) (length log.old)) result (λ _. (T : TableModel) × SameTable T (sobol_table list.now digits) × Replayed (parts (F.Field.means self.old.setup.field) (O.Order.means self.old.setup.order) (S.Scrambler.means self.old.setup.scrambler)) T (log_of calls.now log.new) self.new.state) }
+        ensures same { self.new.setup ≡ self.old.setup }
+        ensures refused { OnErr result (self.new ≡ self.old) }
+        ensures unwritten { OnErr result (log.new ≡ log.old) }
     {
         if log.len() != calls.len() {
             return Err(Fault::of(Kind::WrongLength, Layer::Run));

@@ -14,8 +14,8 @@ loop-column-init g c =
     let laws = g.met.F.Field.keeps c.args.field.now in (
       c.told-coordinates,
       omega arith,
-      first_quotient c.args.table.now.q c.args.from,
-      first_quotient c.args.table.now.q c.args.to,
+      first_quotient c.args.table.now.shape.q c.args.from,
+      first_quotient c.args.table.now.shape.q c.args.to,
       λ same present. moved_none F (model c.args.table.now) (table_over F laws c.args.table.now same) c.args.from c.args.to
           c.args.coordinates.now present,
     )
@@ -25,7 +25,7 @@ loop-column-preserved g c =
     let F = g.F.Field.means c.args.field.now in
     let laws = g.met.F.Field.keeps c.args.field.now in
     let T = model c.args.table.now in
-    let q = c.args.table.now.q in
+    let q = c.args.table.now.shape.q in
     let l = c.loop-column.column in
     let inv = c.loop-column.invariant in
     let q_is : c.from-q.result ≡ q = c.from-q.ensures ∙ c.q.ensures in

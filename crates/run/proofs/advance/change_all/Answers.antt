@@ -1,15 +1,21 @@
-use Rattle.std.proofs.Common.{◌+◌, ◌<◌, length, sym, ap, ◌∙◌, subst, arith}
-use Rattle.std.proofs.lemmas.List.{length-set}
+use Rattle.std.proofs.Common.{◌≡◌, ◌+◌, ◌<◌, ◌≤◌, length, min, ap, ◌∙◌, subst, ⊎_elim, arith, rules}
+use Rattle.std.proofs.lemmas.Bool.{cases_lt}
+use Rattle.std.proofs.lemmas.List.{length-set, set-get_or}
 use Rattle.tables.specs.Table.{model}
-use Rattle.run.specs.Present.{Changed, shown}
-use Rattle.run.proofs.Changes.{changed_more, changed_none}
+use Rattle.run.specs.Present.{Changed, no_digits, shown}
+use Rattle.run.proofs.Changes.{changed_none, changed_past, changed_turn}
 use Rattle.run.proofs.advance.change_all.Goals as goal
 use Rattle.run.proofs.advance.change_all.Goals.{in-Some, in_default}
 
 pub loop-j-init : goal.loop-j-init
 loop-j-init g c =
     let F = g.F.Field.means c.args.field.now in
-    (c.told-coordinates, λ inside. changed_none F (model c.args.table.now) c.args.column c.args.by c.args.coordinates.now)
+    let T = model c.args.table.now in
+    let none : min 0 T.coordinates ≡ 0 = omega arith in
+    record {
+      size = c.told-coordinates;
+      changed = λ inside. rw none (changed_none F T c.args.column c.args.by c.args.coordinates.now);
+    }
 
 pub loop-j-preserved : goal.loop-j-preserved
 loop-j-preserved g c =
@@ -17,19 +23,32 @@ loop-j-preserved g c =
     let T = model c.args.table.now in
     let j = c.loop-j.j in
     let before = c.loop-j.coordinates in
-    let few : j < length before = omega (arith, c.loop-j.invariant.0) in
+    let few : j < length before = omega (arith, c.loop-j.invariant.size) in
     elim c.match-column.branch [
       | in-Some w ↦
-          let told = w.in-Some.ensures in (
-            ap length w.coordinates-is ∙ length-set before j w.change.new.self ∙ c.loop-j.invariant.0,
-            λ inside. subst (Changed F T c.args.column c.args.by (j + 1) c.args.coordinates.now) (sym w.coordinates-is)
-                (changed_more F T c.args.column c.args.by j c.args.coordinates.now before w.change.new.self few
-                c.args.table.now.narrow
+          let told = w.in-Some.ensures in
+          record {
+            size = ap length w.coordinates-is ∙ length-set before j w.change.new.self ∙ c.loop-j.invariant.size;
+            changed = λ inside. rw w.coordinates-is
+                (changed_turn F T c.args.column c.args.by j c.args.coordinates.now before w.change.new.self told.0 few
+                c.args.table.now.shape.narrow
                 (λ k h. w.change.ensures k h ∙ ap (λ x. F.sum (shown before j k) (F.product x c.args.by)) (told.3 k h))
-                (c.loop-j.invariant.1 inside)),
-          )
-      | in_default w ↦ (
-        ap length w.coordinates-is ∙ c.loop-j.invariant.0,
-        λ inside. absurd (w.in_default.ensures (omega (arith, c.loop-j-test.true, c.coordinates-j-end.ensures), inside)),
-      )
+                (c.loop-j.invariant.changed inside));
+          }
+      | in_default w ↦
+          let same = w.coordinates-is ∙ set-get_or before j no_digits in
+          record {
+            size = ap length same ∙ c.loop-j.invariant.size;
+            changed = λ inside.
+                let past : T.coordinates ≤ j = ⊎_elim (λ low. absurd (w.in_default.ensures (low, inside))) (λ past. past) (cases_lt j T.coordinates) in
+                changed_past F T c.args.column c.args.by j c.args.coordinates.now before c.match-column.coordinates past same
+                (c.loop-j.invariant.changed inside);
+          }
     ]
+
+pub returns : goal.returns
+returns g c inside =
+    let T = model c.args.table.now in
+    let few = c.args.table.now.shape.dimension in
+    let all : min c.loop-j.j T.coordinates ≡ T.coordinates = omega arith in
+    rw all at (c.loop-j.invariant.changed inside)

@@ -10,5 +10,5 @@ returns g c = λ same low.
     let F = g.F.Field.means c.args.field.now in
     let laws = g.met.F.Field.keeps c.args.field.now in
     let t = c.args.table.now in
-    (c.advance.ensures same (one-le-pow t.digits t.q (omega (arith, t.base.0))) low
-    (zeros_present F (model t) (table_over F laws t same) t.dimension.1 t.narrow)).0
+    (c.advance.ensures same (one-le-pow t.shape.digits t.shape.q (omega (arith, t.shape.base.0))) low
+    (zeros_present F (model t) (table_over F laws t same) t.shape.dimension.1 t.shape.narrow)).0

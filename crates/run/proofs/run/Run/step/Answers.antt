@@ -1,19 +1,16 @@
-use Rattle.std.proofs.Common.{length, refl}
+use Rattle.std.proofs.Common.{length, refl, rules}
 use Rattle.base.specs.Faults.{stated}
 use Rattle.run.specs.Runs.{call_refused}
 use Rattle.run.specs.States.{view}
 use Rattle.run.specs.declared.replay.Call.TheVariants.{Step}
-use Rattle.run.proofs.Standing.{empty_refuses}
+use Rattle.run.proofs.Same.{same_if_refused, same_run}
 use Rattle.run.proofs.run.Run.step.Goals as goal
 
-pub returns-in_default : goal.returns-in_default
-returns-in_default g c =
-    let x = c.args.self.now in
-    let call = Step (length c.args.out.now) in
-    let why = empty_refuses x.table x.cursor call c.of.result c.in_default.is c.of.ensures in
-    record {
-      tests = why;
-      answer = λ consistent. (call_refused (view x.table x.cursor) call (stated c.of.result) why, consistent);
-      same = (refl, refl, refl);
-      refused = λ _. (refl, refl);
-    }
+pub returns-in_default-clause-answer : goal.returns-in_default-clause-answer
+returns-in_default-clause-answer g c = call_refused (view c.args.self.now.state) (Step (length c.args.out.now)) (stated c.of.result) (search rules)
+
+pub returns-in_default-clause-refused : goal.returns-in_default-clause-refused
+returns-in_default-clause-refused g c = same_run _ _ refl refl
+
+pub returns-clause-refused : goal.returns-clause-refused
+returns-clause-refused g c = search (rules, same_if_refused)

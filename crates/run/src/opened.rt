@@ -1,0 +1,149 @@
+//! An open run: its table, where it stands, and its calls, with what points are made with at hand.
+ghost use Rattle.std.specs.Prelude.{◌≡◌, ◌↔◌, length, IsTrue, OnErr};
+ghost use Rattle.base.specs.Tests.{Gives};
+ghost use Rattle.run.specs.Runs.{Agree, Answers, call_tests, parts};
+ghost use Rattle.run.specs.declared.replay.Call.TheVariants.{Step, Jump, At, Verdict};
+
+use crate::advance::{advance_one, present};
+use crate::coordinate::Coordinate;
+use crate::point::write_point;
+use base::faults::{Fault, Kind, Layer};
+use fields::field::Field;
+use orders::order::Order;
+use scramblers::scrambler::Scrambler;
+use tables::table::Table;
+use verdict::search::first_passing;
+
+/// What points are made with: a field, an order and a scrambler.
+#[derive(Drop)]
+pub(crate) struct Setup<F, O, S> {
+    pub(crate) field: F,
+    pub(crate) order: O,
+    pub(crate) scrambler: S,
+}
+
+/// The table of an open run, a position, and the present digits of the coordinates there.
+#[derive(Clone, Copy)]
+pub(crate) struct Open {
+    table: Table,
+    position: u64,
+    coordinates: [Coordinate; 8],
+}
+
+impl<F: Field, O: Order, S: Scrambler> Setup<F, O, S> {
+    ghost use Rattle.tables.specs.Table.{model};
+
+    /// Whether the parts have the q, M and s of a table.
+    pub(crate) fn agrees(&self, table: &Table) -> bool
+        ensures { IsTrue result ↔ Agree (parts (F.Field.means self.now.field) (O.Order.means self.now.order) (S.Scrambler.means self.now.scrambler)) (model table.now) }
+    {
+        self.field.q() == table.q()
+            && self.order.q() == table.q()
+            && self.order.digits() == table.digits()
+            && self.scrambler.q() == table.q()
+            && self.scrambler.digits() == table.digits()
+            && self.scrambler.coordinates() == table.coordinates()
+    }
+}
+
+impl Open {
+    ghost use Rattle.tables.specs.Table.{model};
+    ghost use Rattle.run.specs.States.{Shows, at_answer, jump_answer, step_answer, verdict_answer, view_of};
+
+    /// A copy of a table, at position 0.
+    pub(crate) fn new<F: Field, O: Order, S: Scrambler>(setup: &Setup<F, O, S>, table: &Table) -> Open
+        requires { Agree (parts (F.Field.means setup.now.field) (O.Order.means setup.now.order) (S.Scrambler.means setup.now.scrambler)) (model table.now) }
+        ensures table { result.table ≡ table.now }
+        ensures position { result.position ≡ 0 }
+        ensures shows { Shows (parts (F.Field.means setup.now.field) (O.Order.means setup.now.order) (S.Scrambler.means setup.now.scrambler)) result }
+    {
+        let coordinates = present(&setup.field, table, setup.order.index(0));
+        Open {
+            table: *table,
+            position: 0,
+            coordinates,
+        }
+    }
+
+    /// Writes the point of the position and moves one on; answers the position and the number of index digits that change.
+    pub(crate) fn step<F: Field, O: Order, S: Scrambler>(
+        &mut self,
+        setup: &Setup<F, O, S>,
+        out: &mut [u32],
+    ) -> Result<(u64, u8), Fault>
+        requires { Shows (parts (F.Field.means setup.now.field) (O.Order.means setup.now.order) (S.Scrambler.means setup.now.scrambler)) self.old }
+        ensures tests { Gives (call_tests (view_of self.old) (Step (length out.old))) result (λ x. Unit {0}) }
+        ensures answer { Answers (parts (F.Field.means setup.now.field) (O.Order.means setup.now.order) (S.Scrambler.means setup.now.scrambler)) (view_of self.old) (Step (length out.old)) (step_answer result out.new) (view_of self.new) }
+        ensures shows { Shows (parts (F.Field.means setup.now.field) (O.Order.means setup.now.order) (S.Scrambler.means setup.now.scrambler)) self.new }
+        ensures refused { OnErr result (self.new ≡ self.old) }
+        ensures unwritten { OnErr result (out.new ≡ out.old) }
+    {
+        if out.len() != self.table.coordinates() as usize {
+            return Err(Fault::of(Kind::WrongLength, Layer::Run));
+        }
+        let position = self.position;
+        if self.table.positions() <= position {
+            return Err(Fault::of(Kind::Finished, Layer::Run));
+        }
+        write_point(&setup.scrambler, &self.table, &self.coordinates, out);
+        let changed = advance_one(setup, &self.table, &mut self.coordinates, position);
+        self.position = position + 1;
+        Ok((position, changed))
+    }
+
+    /// Sets the position.
+    pub(crate) fn jump<F: Field, O: Order, S: Scrambler>(
+        &mut self,
+        setup: &Setup<F, O, S>,
+        position: u64,
+    ) -> Result<(), Fault>
+        requires { Shows (parts (F.Field.means setup.now.field) (O.Order.means setup.now.order) (S.Scrambler.means setup.now.scrambler)) self.old }
+        ensures tests { Gives (call_tests (view_of self.old) (Jump position)) result (λ x. Unit {0}) }
+        ensures answer { Answers (parts (F.Field.means setup.now.field) (O.Order.means setup.now.order) (S.Scrambler.means setup.now.scrambler)) (view_of self.old) (Jump position) (jump_answer result) (view_of self.new) }
+        ensures shows { Shows (parts (F.Field.means setup.now.field) (O.Order.means setup.now.order) (S.Scrambler.means setup.now.scrambler)) self.new }
+        ensures refused { OnErr result (self.new ≡ self.old) }
+    {
+        if position >= self.table.positions() {
+            return Err(Fault::of(Kind::OutOfReach, Layer::Run));
+        }
+        self.coordinates = present(&setup.field, &self.table, setup.order.index(position));
+        self.position = position;
+        Ok(())
+    }
+
+    /// Writes the point of a position.
+    pub(crate) fn at<F: Field, O: Order, S: Scrambler>(
+        &self,
+        setup: &Setup<F, O, S>,
+        position: u64,
+        out: &mut [u32],
+    ) -> Result<(), Fault>
+        requires { Shows (parts (F.Field.means setup.now.field) (O.Order.means setup.now.order) (S.Scrambler.means setup.now.scrambler)) self.now }
+        ensures tests { Gives (call_tests (view_of self.now) (At position (length out.old))) result (λ x. Unit {0}) }
+        ensures answer { Answers (parts (F.Field.means setup.now.field) (O.Order.means setup.now.order) (S.Scrambler.means setup.now.scrambler)) (view_of self.now) (At position (length out.old)) (at_answer result out.new) (view_of self.now) }
+        ensures refused { OnErr result (out.new ≡ out.old) }
+    {
+        if out.len() != self.table.coordinates() as usize {
+            return Err(Fault::of(Kind::WrongLength, Layer::Run));
+        }
+        if position >= self.table.positions() {
+            return Err(Fault::of(Kind::OutOfReach, Layer::Run));
+        }
+        let coordinates = present(&setup.field, &self.table, setup.order.index(position));
+        write_point(&setup.scrambler, &self.table, &coordinates, out);
+        Ok(())
+    }
+
+    /// The least t of every block of q^m points.
+    pub(crate) fn verdict<F: Field, O: Order, S: Scrambler>(
+        &self,
+        setup: &Setup<F, O, S>,
+        m: u8,
+    ) -> Result<u8, Fault>
+        requires { Shows (parts (F.Field.means setup.now.field) (O.Order.means setup.now.order) (S.Scrambler.means setup.now.scrambler)) self.now }
+        ensures tests { Gives (call_tests (view_of self.now) (Verdict m)) result (λ x. Unit {0}) }
+        ensures answer { Answers (parts (F.Field.means setup.now.field) (O.Order.means setup.now.order) (S.Scrambler.means setup.now.scrambler)) (view_of self.now) (Verdict m) (verdict_answer result) (view_of self.now) }
+    {
+        first_passing(&setup.field, &self.table, m)
+    }
+}
