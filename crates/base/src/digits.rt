@@ -1,6 +1,6 @@
-//! The test of bytes that should be digits.
-ghost use Rattle.std.specs.Prelude.{MatchOption};
-ghost use Rattle.base.specs.Digits.{AllDigits, FirstBad, digit_tests};
+//! The test of bytes that should be digits, and keeping them in an array.
+ghost use Rattle.std.specs.Prelude.{◌≡◌, ℕ, ◌≤◌, length, MatchOption, slice_index};
+ghost use Rattle.base.specs.Digits.{AllDigits, BeginsWith, FirstBad, digit_tests};
 ghost use Rattle.base.specs.Faults.{layer_number};
 ghost use Rattle.base.specs.Tests.{Gives};
 
@@ -21,4 +21,15 @@ pub fn check_digits(bytes: &[u8], q: u8, layer: Layer) -> Result<(), Fault>
         Some(place) => Err(Fault::at(Kind::BadDigit, layer, place)),
         None => Ok(()),
     }
+}
+
+/// Some bytes in an array that has 0 after them.
+pub fn padded<const N: usize>(bytes: &[u8]) -> [u8; N]
+    requires { length bytes.now ≤ N }
+    ensures held { BeginsWith bytes.now result }
+    ensures spare { (i : ℕ) → length bytes.now ≤ i → slice_index result i ≡ 0 }
+{
+    let mut kept = [0u8; N];
+    kept[..bytes.len()].copy_from_slice(bytes);
+    kept
 }

@@ -1,4 +1,3 @@
-use Rattle.std.proofs.Common.{arith}
 use Rattle.base.proofs.Widths.{at_most_32_digits}
 use Rattle.base.proofs.limits.Shape.new.Goals as goal
 
