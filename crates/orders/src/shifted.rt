@@ -40,7 +40,7 @@ impl ShiftedOrder {
 impl Order for ShiftedOrder {
     ghost use Rattle.std.specs.Prelude.{◌+◌};
     ghost use Rattle.std.proofs.Common.{mod-lt, arith};
-    ghost use Rattle.orders.specs.Numerals.{same_if_shifts_same};
+    ghost use Rattle.base.proofs.Shifts.{same_if_shifts_same};
     ghost use Rattle.orders.specs.Prefixes.{digitwise_keeps_laws};
     ghost use Rattle.orders.specs.Shifted.{shift_step, shifted_order};
 
