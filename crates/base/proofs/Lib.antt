@@ -5,3 +5,4 @@ pub mod SplitOrder
 pub mod SplitsPassed
 pub mod Testing
 pub mod Widths
+pub mod Shifts

@@ -1,5 +1,5 @@
-//! The test of bytes that should be digits.
-ghost use Rattle.std.specs.Prelude.{◌≡◌, ◌%◌, ◌^◌, MatchOption};
+//! The test of bytes that should be digits, their number, and keeping them in an array.
+ghost use Rattle.std.specs.Prelude.{◌≡◌, ℕ, ◌%◌, ◌^◌, ◌<◌, MatchOption, slice_index};
 ghost use Rattle.base.specs.Digits.{AllDigits, FirstBad, digit_tests};
 ghost use Rattle.base.specs.Faults.{layer_number};
 ghost use Rattle.base.specs.Points.{numerator};
@@ -33,4 +33,14 @@ pub fn number_of(word: &[u8], q: u8) -> u32
             .wrapping_mul(u32::from(q))
             .wrapping_add(u32::from(*digit))
     })
+}
+
+/// Some bytes in an array, with 0 after them; what is past its last place is left out.
+pub fn padded<const N: usize>(bytes: &[u8]) -> [u8; N]
+    ensures { (i : ℕ) → i < N → slice_index result i ≡ slice_index bytes.now i }
+{
+    let kept = bytes.len().min(N);
+    let mut array = [0u8; N];
+    array[..kept].copy_from_slice(&bytes[..kept]);
+    array
 }

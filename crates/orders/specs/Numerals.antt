@@ -1,10 +1,9 @@
 -- Numbers and their digits in base q.
--- A number made from digits below q lies below q^n and has those digits; a number is its quotient and a digit;
--- a digit shifted by a constant mod q can be shifted back.
+-- A number made from digits below q lies below q^n and has those digits; a number is its quotient and a digit.
 -- Assumes nothing.
-use Rattle.std.specs.Prelude.{◌≡◌, ℕ, zero, suc, ◌+◌, ◌-◌, ◌*◌, ◌/◌, ◌%◌, ◌^◌, ◌<◌}
-use Rattle.std.proofs.Common.{sym, ◌∙◌, ap, ap₂, zero-add, mul-zero, mul-one, mul-add, mul_left_comm, pow-suc, div-one, div-add-mod', mod-eq_of_lt, mod-lt, mul-suc, arith}
-use Rattle.std.proofs.Math.Nat.{pow-zero, pow-succ', div-div-eq-div-mul, div-eq_of_lt, div-add-mod, add-mul-div_left, add-mul-mod_self_left, mod-add-mod}
+use Rattle.std.specs.Prelude.{◌≡◌, ℕ, zero, suc, ◌+◌, ◌*◌, ◌/◌, ◌^◌, ◌<◌}
+use Rattle.std.proofs.Common.{sym, ◌∙◌, ap, ap₂, zero-add, mul-zero, mul-one, mul-add, mul_left_comm, pow-suc, div-one, div-add-mod', mod-eq_of_lt, arith}
+use Rattle.std.proofs.Math.Nat.{pow-zero, pow-succ', div-div-eq-div-mul, div-eq_of_lt, add-mul-div_left, add-mul-mod_self_left}
 use Rattle.std.proofs.lemmas.Nat.{mul-add-lt}
 use Rattle.base.specs.Orders.{digit, from_digits}
 
@@ -50,15 +49,3 @@ quotient_and_digit q n l = rw quotient_above (sym (div-add-mod' (n / q ^ l) q))
 pub same_if_parts_same : (q a b l : ℕ) → a / q ^ suc l ≡ b / q ^ suc l → digit q a l ≡ digit q b l → a / q ^ l ≡ b / q ^ l
 same_if_parts_same q a b l above here =
     quotient_and_digit q a l ∙ ap₂ (λ x y. x * q + y) above here ∙ sym (quotient_and_digit q b l)
-
--- ---- shifts of a digit
-
-shifted_back : (q c d : ℕ) → d < q → ((d + c) % q + (q - c % q)) % q ≡ d
-shifted_back q c d h =
-    let some : 0 < q = omega arith in
-    let whole : d + c + (q - c % q) ≡ d + q * suc (c / q) = omega (arith, div-add-mod c q, mod-lt c some, mul-suc q (c / q)) in
-    mod-add-mod (d + c) q (q - c % q) ∙ rw (whole, add-mul-mod_self_left) (mod-eq_of_lt h)
-
-pub same_if_shifts_same : (q c d e : ℕ) → d < q → e < q → (d + c) % q ≡ (e + c) % q → d ≡ e
-same_if_shifts_same q c d e hd he same =
-    sym (shifted_back q c d hd) ∙ ap (λ x. (x + (q - c % q)) % q) same ∙ shifted_back q c e he

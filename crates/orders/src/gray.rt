@@ -4,7 +4,7 @@ ghost use Rattle.base.specs.Tests.{Gives};
 ghost use Rattle.orders.specs.Gray.{gray_order, gray_step};
 ghost use Rattle.orders.specs.Sizes.{HasSize, size_tests};
 ghost use Rattle.std.proofs.Common.{mod-lt, arith};
-ghost use Rattle.orders.specs.Numerals.{same_if_shifts_same};
+ghost use Rattle.base.proofs.Shifts.{same_if_shifts_same};
 ghost use Rattle.orders.specs.Prefixes.{digitwise_keeps_laws};
 
 use crate::digitwise::index_by;

@@ -4,7 +4,7 @@ ghost use Rattle.std.specs.Prelude.{ℕ, ◌<◌, slice_index};
 use crate::digitwise::index_by;
 use crate::order::Order;
 use crate::size::Size;
-use base::digits::check_digits;
+use base::digits::{check_digits, padded};
 use base::faults::{Fault, Kind, Layer};
 
 /// The order whose digit at q^l is (d_l + key_l) mod q, arithmetic on numbers.
@@ -30,16 +30,17 @@ impl ShiftedOrder {
             return Err(Fault::of(Kind::WrongLength, Layer::Making));
         }
         check_digits(key, q, Layer::Making)?;
-        let mut kept = [0u8; 32];
-        kept[..key.len()].copy_from_slice(key);
-        Ok(ShiftedOrder { size, key: kept })
+        Ok(ShiftedOrder {
+            size,
+            key: padded(key),
+        })
     }
 }
 
 impl Order for ShiftedOrder {
     ghost use Rattle.std.specs.Prelude.{◌+◌};
     ghost use Rattle.std.proofs.Common.{mod-lt, arith};
-    ghost use Rattle.orders.specs.Numerals.{same_if_shifts_same};
+    ghost use Rattle.base.proofs.Shifts.{same_if_shifts_same};
     ghost use Rattle.orders.specs.Prefixes.{digitwise_keeps_laws};
     ghost use Rattle.orders.specs.Shifted.{shift_step, shifted_order};
 

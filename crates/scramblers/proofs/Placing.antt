@@ -1,9 +1,11 @@
 -- The tests of the bytes of matrices, one after the other, and how many bytes those are. Assumes nothing.
-use Rattle.std.proofs.Common.{ℕ, ◌*◌, ◌≤◌, List, length, sym, refl, ◌∙◌, inl, arith}
+use Rattle.std.proofs.Common.{◌≡◌, ℕ, ◌*◌, ◌<◌, ◌≤◌, List, length, get_or, sym, refl, ◌∙◌, inl, arith}
 use mathlib.Core.Bool.{false≢true}
 use Rattle.std.proofs.lemmas.Nat.{mul-le}
 use Rattle.base.proofs.Testing.{clean_in_turn, refused_in_turn}
+use Rattle.base.specs.Digits.{BeginsWith}
 use Rattle.base.specs.Faults.{refusal}
+use Rattle.base.specs.Shapes.{HasShape}
 use Rattle.base.specs.Tests.{Clean, Refused}
 use Rattle.base.specs.declared.limits.Shape.{Shape}
 use Rattle.scramblers.specs.Linear.{place_test, place_tests}
@@ -20,11 +22,10 @@ places_refused q M bytes i found =
     refused_in_turn (place_test q M bytes) 0 (length bytes) i (refusal 7 6 255 i) (omega arith) (omega (arith, found.within))
     (λ k low high. (λ bad. false≢true (sym (found.first k high) ∙ bad), tt)) (inl (found.bad, refl))
 
--- the matrices of a shape have at most 8,192 bytes
-pub matrices_fit : (x : Shape) → x.coordinates * (x.digits * x.digits) ≤ 8192
-matrices_fit x =
-    mul-le x.coordinates (x.digits * x.digits) 8 1024 x.dimension.1 (mul-le x.digits x.digits 32 32 x.narrow x.narrow)
-
--- a key of one digit for each place of each coordinate has at most 256 digits
-pub key_fits : (x : Shape) → x.coordinates * x.digits ≤ 256
-key_fits x = mul-le x.coordinates x.digits 8 32 x.dimension.1 x.narrow
+-- the bytes of the matrices of a shape fit an array of 8,192, so all of them stand there
+pub matrices_fit : (x : Shape) (q M s : ℕ) (bytes array : List ℕ) → HasShape q M s x → length bytes ≡ s * (M * M)
+    → ((i : ℕ) → i < 8192 → get_or array i 0 ≡ get_or bytes i 0) → BeginsWith bytes array
+matrices_fit x q M s bytes array is size same i low =
+    let fits : s * (M * M) ≤ 8192 =
+    rw (is.coordinates_are, is.digits_are) at (mul-le x.coordinates (x.digits * x.digits) 8 1024 x.dimension.1 (mul-le x.digits x.digits 32 32 x.narrow x.narrow)) in
+    same i (omega (arith, low, size, fits))

@@ -1,7 +1,7 @@
 -- What a shift keeps of its key. Assumes nothing.
 use Rattle.std.specs.Prelude.{ℕ, List}
+use Rattle.base.specs.Digits.{BeginsWith}
 use Rattle.base.specs.Shapes.{HasShape}
-use Rattle.scramblers.specs.Padding.{BeginsWith}
 use Rattle.scramblers.specs.declared.shift.ShiftScrambler.{ShiftScrambler}
 
 -- the shift has the numbers and the key digits that it was made with

@@ -4,7 +4,6 @@ pub mod Keys
 pub mod Linear
 pub mod Matrices
 pub mod None
-pub mod Padding
 pub mod Prefix
 pub mod Shapes
 pub mod Shift

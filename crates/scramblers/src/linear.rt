@@ -6,7 +6,8 @@ ghost use Rattle.scramblers.specs.Linear.{misplaced, place_tests};
 ghost use Rattle.scramblers.specs.Matrices.{AllPlaced, FirstMisplaced};
 
 use crate::scrambler::Scrambler;
-use crate::words::{padded, scrambles};
+use crate::words::scrambles;
+use base::digits::padded;
 use base::faults::{Fault, Kind, Layer};
 use base::limits::Shape;
 use fields::field::Field;
@@ -67,9 +68,9 @@ fn row_sum<F: Field>(field: &F, row: &[u8], word: &[u8]) -> u8
 }
 
 impl<F: Field + Drop> LinearScrambler<F> {
+    ghost use Rattle.base.specs.Digits.{BeginsWith};
     ghost use Rattle.base.specs.Shapes.{HasShape};
     ghost use Rattle.scramblers.specs.Linear.{linear_tests};
-    ghost use Rattle.scramblers.specs.Padding.{BeginsWith};
 
     /// The scrambler of some matrices over a field: digits x digits bytes for each coordinate, row by row.
     pub fn new(

@@ -2,8 +2,8 @@
 ghost use Rattle.std.specs.Prelude.{ℕ, ◌<◌, slice_index};
 
 use crate::scrambler::Scrambler;
-use crate::words::{padded, scrambles};
-use base::digits::check_digits;
+use crate::words::scrambles;
+use base::digits::{check_digits, padded};
 use base::faults::{Fault, Kind, Layer};
 use base::limits::Shape;
 
