@@ -1,5 +1,5 @@
 //! Travel scaling: from the numerators of a point to counts between the limit switches.
-ghost use Rattle.std.specs.Prelude.{◌≡◌, ◌^◌, ◌<◌, ◌↔◌, IsTrue, false, length, is_ok};
+ghost use Rattle.std.specs.Prelude.{◌≡◌, ◌^◌, ◌<◌, ◌↔◌, IsTrue, OnErr, length};
 ghost use Rattle.base.specs.Digits.{AllDigits};
 ghost use Rattle.base.specs.Tests.{Gives};
 ghost use Rattle.checks.specs.Settings.{AllTravel, Grows, Scaled, Scales, TravelFits, travel_tests};
@@ -65,7 +65,7 @@ pub fn settings(
     out: &mut [u16],
 ) -> Result<(), Fault>
     ensures answer { Gives (travel_tests q digits coordinates numerators.now travel.now (length out.old)) result (λ _. Scaled (q ^ digits) coordinates numerators.now travel.now out.new) }
-    ensures refused { is_ok result ≡ false → out.new ≡ out.old }
+    ensures refused { OnErr result (out.new ≡ out.old) }
     ensures grows { Grows }
 {
     let shape = Shape::new(q, digits, coordinates, Layer::Travel)?;
