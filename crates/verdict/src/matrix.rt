@@ -36,6 +36,7 @@ fn add_multiple<F: Field>(field: &F, row: &mut Row, factor: u8, other: &Row, col
     requires { columns ≤ 32 }
     ensures { (l : ℕ) → l < columns → slice_index row.new l ≡ (F.Field.means field.now).sum (slice_index row.old l) ((F.Field.means field.now).product factor (slice_index other.now l)) }
 {
+    // The sum is written by index: what a `zip` over `iter_mut` leaves in the row is not known to a proof.
     for (column, digit) in other[..columns].iter().enumerate() {
         row[column] = field.add(row[column], field.mul(factor, *digit));
     }
@@ -122,6 +123,7 @@ impl Matrix {
         requires { DigitRows (F.Field.means field.now).q 0 self.count self.columns self.rows }
         ensures { IsTrue result ↔ Independent (F.Field.means field.now) self.count self.columns (digits_of self.rows) }
     {
+        // By index, since each row with a pivot changes the rows after it.
         for own in 0..self.count {
             let row = self.rows[own];
             let Some(pivot) = pivot_of(field, &row, self.columns) else {
