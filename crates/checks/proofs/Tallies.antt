@@ -1,18 +1,16 @@
 -- The steps of counting points in cells, as in specs/Counting.antt.
--- The list of powers grows by one power a step, within 33 bits. The number of a point's cell goes on by one coordinate a step,
--- and stays below the number of cells. One point more adds 1 to the counter of its cell, and a counter is at most the number of
--- points.
+-- The list of powers holds what each call for a power gave. The number of a point's cell goes on by one coordinate a step, and
+-- stays below the number of cells. One point more adds 1 to the counter of its cell, and a counter is at most the number of points.
 -- Assumes nothing.
-use Rattle.std.proofs.Common.{◌≡◌, ℕ, zero, suc, ◌+◌, ◌-◌, ◌*◌, ◌/◌, ◌%◌, ◌^◌, ◌<◌, ◌≤◌, Bool, cond, eqb, List, [], ◌∷◌, ◌++◌, length, get_or, take, drop, set, sym, refl, ap, ◌∙◌, subst, ap₂, ⊎_elim, add-zero, mul-le-mul_right, suc-mul, mul_comm, lt_of_mul-lt-mul_right, zero-mul, add-one, arith, pow-add}
+use Rattle.std.proofs.Common.{◌≡◌, ℕ, zero, suc, ◌+◌, ◌-◌, ◌*◌, ◌/◌, ◌%◌, ◌^◌, ◌<◌, ◌≤◌, Bool, cond, eqb, List, [], ◌∷◌, ◌++◌, length, get_or, take, drop, set, sym, refl, ap, ◌∙◌, subst, ap₂, ⊎_elim, add-zero, mul-le-mul_right, suc-mul, mul_comm, lt_of_mul-lt-mul_right, add-one, arith, pow-add}
 use native.Mathlib.Nat.{one-le-pow, pow-le-pow_right}
 use Rattle.std.proofs.Math.Nat.{mod-eq_of_lt}
 use Rattle.std.proofs.lemmas.Nat.{div_below, mul-add-lt}
 use Rattle.std.proofs.lemmas.List.FromFn.{map-range_with_len_more, length-map-range_with_len}
-use Rattle.std.proofs.lemmas.List.{drop_at, drop-drop, drop_more, get_or-drop, get_or-set_other, get_or-set_same, get_or-take, length-append, length-drop, length-take, take_at, take_more}
+use Rattle.std.proofs.lemmas.List.{drop_at, drop-drop, drop_more, get_or-drop, get_or-set_other, get_or-set_same, length-append, length-drop, take_at, take_more}
 use Rattle.std.proofs.lemmas.Bool.{cases_eq, cond_both, cond-false, cond-true, eq-eqb, ne_eqb}
 use Rattle.std.specs.Slice.Iter.{chunks_exact_remainder, chunks_exact_rest, chunks_exact_size}
 use Rattle.std.specs.declared.slice.ChunksExact.{ChunksExact}
-use Rattle.base.specs.Digits.{AllDigits}
 use Rattle.base.specs.Nets.{count, total}
 use Rattle.std.specs.Fn.{Called}
 use Rattle.std.specs.Array.{IsFromFnResultFrom}
@@ -70,12 +68,6 @@ grid_powers g = record { some = omega (arith, g.shape.base.0); fits = g.shape.wi
 pub cells_fit : (q M : ℕ) (powers ds : List ℕ) (j : ℕ) → Powers q M powers → total ds ≤ M → q ^ total (take j ds) ≤ 2 ^ 32
 cells_fit q M powers ds j p h =
     omega (arith, p.fits, pow-le-pow_right {n = q} (omega (arith, p.some)) {i = total (take j ds)} {j = M} (omega (arith, front_within_total j ds)))
-
-pub cells_more : (q M : ℕ) (powers ds : List ℕ) (j : ℕ) → Powers q M powers → total ds ≤ M → j < length ds
-    → q ^ total (take j ds) * get_or powers (get_or ds j 0) 0 ≡ q ^ total (take (j + 1) ds)
-cells_more q M powers ds j p h l =
-    ap (λ x. q ^ total (take j ds) * x) (p.are (get_or ds j 0) (omega (arith, count_within_total ds j)))
-    ∙ sym (pow-add q (total (take j ds)) (get_or ds j 0)) ∙ ap (λ x. q ^ x) (sym (total_more ds j l))
 
 -- ---- the number of a cell
 
@@ -151,10 +143,6 @@ Steps t point u =
     × ((chunks_exact_rest t ≡ point ++ chunks_exact_rest u) × (length point ≡ chunks_exact_size t))
     × (chunks_exact_remainder u ≡ chunks_exact_remainder t)
 
-pub all_left : (s n : ℕ) (points : List ℕ) (t : ChunksExact ℕ) → chunks_exact_size t ≡ s → chunks_exact_rest t ≡ points → Left s n 0 points t
-all_left s n points t size rest =
-    record { size = size; within = omega arith; rest = rest ∙ ap (λ k. drop k points) (sym (zero-mul s)) }
-
 pub next_length : (s n i : ℕ) (points point : List ℕ) (t u : ChunksExact ℕ) → Left s n i points t → Steps t point u → length point ≡ s
 next_length s n i points point t u left step = step.1.1 ∙ left.size
 
@@ -185,13 +173,6 @@ none_left s n i points t all left short =
     (λ ne. let before : i < n = omega (arith, left.within) in
     let room : i * s + s ≤ n * s = rw (← suc-mul i s) (mul-le-mul_right {m = suc i} {n = n} s before) in
     omega (arith, left.size, ap length left.rest, length-drop (i * s) points)) (cases_eq i n)
-
-pub point_digits : (Q s i : ℕ) (points : List ℕ) → AllDigits Q points → AllDigits Q (take s (drop (i * s) points))
-point_digits Q s i points all k h =
-    let size = length-take s (drop (i * s) points) in
-    let rest = length-drop (i * s) points in
-    let e = get_or-take s (drop (i * s) points) k 0 (omega (arith, size)) ∙ get_or-drop (i * s) points k 0 in
-    rw e (all (i * s + k) (omega (arith, size, rest)))
 
 -- a counter is at most the number of points
 pub counter_within_points : (q M s : ℕ) (counts : List ℕ) (n : ℕ) (points counters : List ℕ) (c : ℕ) → c < q ^ total counts

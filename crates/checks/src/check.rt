@@ -1,5 +1,5 @@
 //! The counting check: the least t for which points form a net, found by counting them in cells.
-ghost use Rattle.std.specs.Prelude.{◌≡◌, ◌^◌, false, length, is_ok};
+ghost use Rattle.std.specs.Prelude.{◌≡◌, ◌^◌, OnErr, length};
 ghost use Rattle.base.specs.Nets.{Least, Net};
 ghost use Rattle.base.specs.Tests.{Gives};
 ghost use Rattle.checks.specs.Counting.{Cleared, check_tests, points_of};
@@ -19,7 +19,7 @@ pub fn least_t(
     counters: &mut [u32],
 ) -> Result<u8, Fault>
     ensures answer { Gives (check_tests q digits coordinates m points.now (length counters.old)) result (λ t. Least (λ u. Net q digits coordinates u m (points_of coordinates (q ^ m) points.now)) t × Cleared (q ^ m) counters.old counters.new) }
-    ensures refused { is_ok result ≡ false → counters.new ≡ counters.old }
+    ensures refused { OnErr result (counters.new ≡ counters.old) }
 {
     let shape = Shape::new(q, digits, coordinates, Layer::Check)?;
     let block = Block::new(shape, m, points, counters.len())?;

@@ -37,7 +37,11 @@ impl Grid {
             return None;
         }
         let size = self.powers[m as usize];
-        if size <= 4096 { Some(size as usize) } else { None }
+        if size <= 4096 {
+            Some(size as usize)
+        } else {
+            None
+        }
     }
 
     // The number of a point's cell.

@@ -6,6 +6,7 @@ ghost use Rattle.base.specs.Tests.{Gives};
 
 use base::faults::{Fault, Kind, Layer};
 
+// It stays beside base's `first_bad_digit`: what is generic in both is std's `position`, the one call of each.
 /// The index of the first numerator that is `positions` or more; none where all are below it.
 pub fn first_bad_numerator(numerators: &[u32], positions: u64) -> Option<usize>
     ensures { MatchOption result (AllDigits positions numerators.now) (FirstBad positions numerators.now) }

@@ -1,5 +1,5 @@
 //! Travel scaling: from the numerators of a point to counts between the limit switches.
-ghost use Rattle.std.specs.Prelude.{◌≡◌, ◌^◌, ◌<◌, ◌↔◌, IsTrue, false, length, is_ok};
+ghost use Rattle.std.specs.Prelude.{◌≡◌, ◌^◌, ◌<◌, ◌↔◌, IsTrue, OnErr, length};
 ghost use Rattle.base.specs.Digits.{AllDigits};
 ghost use Rattle.base.specs.Tests.{Gives};
 ghost use Rattle.checks.specs.Settings.{AllTravel, Grows, Scaled, Scales, TravelFits, travel_tests};
@@ -49,6 +49,7 @@ fn write_settings(positions: u64, numerators: &[u32], travel: &[Travel], out: &m
     requires fit { AllTravel travel.now }
     ensures { Scaled positions (length numerators.now) numerators.now travel.now out.new }
 {
+    // By index beside `iter_mut`: what a `zip` over it leaves in the slice is not known to a proof.
     for (j, setting) in out.iter_mut().enumerate() {
         *setting = travel[j].setting(positions, numerators[j]);
     }
@@ -65,7 +66,7 @@ pub fn settings(
     out: &mut [u16],
 ) -> Result<(), Fault>
     ensures answer { Gives (travel_tests q digits coordinates numerators.now travel.now (length out.old)) result (λ _. Scaled (q ^ digits) coordinates numerators.now travel.now out.new) }
-    ensures refused { is_ok result ≡ false → out.new ≡ out.old }
+    ensures refused { OnErr result (out.new ≡ out.old) }
     ensures grows { Grows }
 {
     let shape = Shape::new(q, digits, coordinates, Layer::Travel)?;

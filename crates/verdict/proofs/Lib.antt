@@ -1,4 +1,3 @@
-pub mod Clearing
 pub mod FailsBelow
 pub mod Inverses
 pub mod PivotStep

@@ -7,7 +7,7 @@ use Rattle.base.specs.Independence.{Independent}
 use Rattle.nets.proofs.SameTables.{same_rows_independent}
 use Rattle.nets.specs.Rows.{Rows}
 use Rattle.verdict.specs.Matrices.{ClearedBelow, DigitRows, PivotAt, digits_of}
-use Rattle.verdict.specs.declared.elimination.Pivot.{Pivot}
+use Rattle.verdict.specs.declared.matrix.Pivot.{Pivot}
 use Rattle.verdict.proofs.PivotStep.{pivot_step, zero_row_dependent}
 
 -- the rows from row a on

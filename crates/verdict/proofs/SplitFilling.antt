@@ -8,13 +8,6 @@ use Rattle.base.specs.Tables.{TableModel}
 use Rattle.nets.proofs.SplitPlaces.{InSplit, place_below, row_at_place, rows_before}
 use Rattle.verdict.specs.Matrices.{SplitRows, digits_of}
 
--- the first counts are at most all together
-pub rows_before_most : (ds : List ℕ) (j : ℕ) → rows_before ds j ≤ total ds
-rows_before_most [] zero = omega arith
-rows_before_most [] (suc j) = omega arith
-rows_before_most (d ∷ ds) zero = omega arith
-rows_before_most (d ∷ ds) (suc j) = omega (arith, rows_before_most ds j)
-
 -- one count more
 pub rows_before_more : (ds : List ℕ) (j : ℕ) → j < length ds → rows_before ds (suc j) ≡ rows_before ds j + get_or ds j 0
 rows_before_more [] j h = elim h [ ]

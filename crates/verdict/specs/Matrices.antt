@@ -3,7 +3,7 @@ use Rattle.std.specs.Prelude.{◌≡◌, ℕ, ◌<◌, ◌≤◌, ◌⊎◌, Lis
 use Rattle.base.specs.Fields.{FieldModel}
 use Rattle.base.specs.Independence.{split_row}
 use Rattle.base.specs.Tables.{TableModel}
-use Rattle.verdict.specs.declared.elimination.Pivot.{Pivot}
+use Rattle.verdict.specs.declared.matrix.Pivot.{Pivot}
 
 -- the digit of row i in column l
 abbrev pub digits_of : List (List ℕ) → ℕ → ℕ → ℕ

@@ -1,13 +1,12 @@
 //! The search for the least t: the first, from 0 up, whose splits all pass.
-ghost use Rattle.std.specs.Prelude.{◌≡◌, ◌≤◌, length, Decides};
+ghost use Rattle.std.specs.Prelude.{◌≡◌, ◌≤◌, ◌↔◌, IsTrue, length};
 ghost use Rattle.base.specs.Independence.{FirstPassing, Passes};
 ghost use Rattle.base.specs.Nets.{total};
 ghost use Rattle.base.specs.Tests.{Gives};
 ghost use Rattle.tables.specs.Table.{model};
 ghost use Rattle.verdict.specs.Search.{search_tests};
 
-use crate::elimination::independent;
-use crate::rows::split_rows;
+use crate::matrix::Matrix;
 use base::faults::{Fault, Kind, Layer};
 use base::splits::Splits;
 use fields::field::Field;
@@ -15,26 +14,26 @@ use tables::table::Table;
 
 // Whether a split passes: its rows, cut to m columns, are independent.
 fn split_passes<F: Field>(field: &F, table: &Table, counts: &[u8], m: u8) -> bool
-    requires { ((F.Field.means field.now).q ≡ (model table.now).q) × ((length counts.now ≡ (model table.now).coordinates) × (total counts.now ≤ m) × (m ≤ (model table.now).digits)) }
-    ensures { Decides result (Passes (F.Field.means field.now) (model table.now) m counts.now) }
+    requires same { (F.Field.means field.now).q ≡ (model table.now).q }
+    requires each { length counts.now ≡ (model table.now).coordinates }
+    requires few { total counts.now ≤ m }
+    requires within { m ≤ (model table.now).digits }
+    ensures { IsTrue result ↔ Passes (F.Field.means field.now) (model table.now) m counts.now }
 {
-    let mut count = 0;
-    for d in counts {
-        count += *d;
-    }
-    independent(field, split_rows(table, counts, m), count, m)
+    Matrix::of_split(table, counts, m).is_independent(field)
 }
 
 // The first t, from 0 up, whose splits all pass; for t = m there is nothing to pass.
 fn search<F: Field>(field: &F, table: &Table, m: u8) -> u8
-    requires { ((F.Field.means field.now).q ≡ (model table.now).q) × (m ≤ (model table.now).digits) }
+    requires same { (F.Field.means field.now).q ≡ (model table.now).q }
+    requires within { m ≤ (model table.now).digits }
     ensures { FirstPassing (F.Field.means field.now) (model table.now) m result }
 {
     'next: for t in 0..m {
         let Some(mut splits) = Splits::first(table.coordinates(), m - t) else {
             return unreachable();
         };
-        'splits: loop {
+        loop {
             if !split_passes(field, table, splits.counts(), m) {
                 continue 'next;
             }

@@ -11,18 +11,18 @@ next-preserved g c =
     let F = g.F.Field.means c.args.field.now in
     let T = model c.args.table.now in
     let counts = c.counts.result.now in
-    fails_more F T c.args.m c.next.t c.splits.invariant.0 c.splits.splits c.splits.invariant.1 counts
+    fails_more F T c.args.m c.next.t c.loop-splits.invariant.0 c.loop-splits.splits c.loop-splits.invariant.1 counts
     c.counts.ensures.value c.counts.ensures.size
     (not_from_Decides {P = Passes F T c.args.m counts} c.split_passes.result c.split_passes.ensures c.if-not-split_passes.true)
 
-pub splits-preserved : goal.splits-preserved
-splits-preserved g c =
+pub loop-splits-preserved : goal.loop-splits-preserved
+loop-splits-preserved g c =
     let F = g.F.Field.means c.args.field.now in
     let T = model c.args.table.now in
     let passes = Passes F T c.args.m in
     let next = c.if-not-next.ensures in (
-      c.splits.invariant.0,
-      passed_next T.coordinates (c.args.m - c.next.t) passes c.splits.splits c.next-in-splits.new.self c.splits.invariant.1
+      c.loop-splits.invariant.0,
+      passed_next T.coordinates (c.args.m - c.next.t) passes c.loop-splits.splits c.next-in-loop-splits.new.self c.loop-splits.invariant.1
           (subst passes c.counts.ensures.value (c.if-not-split_passes.ensures.0 refl))
           next.same.0 next.same.1 (next.none_between refl),
     )
@@ -32,8 +32,8 @@ returns-then-not-next g c =
     let F = g.F.Field.means c.args.field.now in
     let T = model c.args.table.now in
     let passes = Passes F T c.args.m in
-    found F T c.args.m c.next.t c.splits.invariant.0 (omega arith)
-    (all_passed T.coordinates (c.args.m - c.next.t) passes c.splits.splits c.splits.invariant.1
+    found F T c.args.m c.next.t c.loop-splits.invariant.0 (omega arith)
+    (all_passed T.coordinates (c.args.m - c.next.t) passes c.loop-splits.splits c.loop-splits.invariant.1
     (subst passes c.counts.ensures.value (c.if-not-split_passes.ensures.0 refl))
     (c.if-not-next.ensures.last refl).1)
 

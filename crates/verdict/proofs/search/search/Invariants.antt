@@ -11,10 +11,10 @@ abbrev pub invariant-next : goal.invariant-next
 invariant-next g l = FailsBelow (g.F.Field.means l.field) (model l.table) l.m l.t
 
 -- and every split before the one at hand passes
-abbrev pub invariant-splits : goal.invariant-splits
-invariant-splits g l =
+abbrev pub invariant-loop-splits : goal.invariant-loop-splits
+invariant-loop-splits g l =
     FailsBelow (g.F.Field.means l.field) (model l.table) l.m l.t
     × PassedBefore l.table.coordinates (l.m - l.t) (Passes (g.F.Field.means l.field) (model l.table) l.m) l.splits
 
-abbrev pub decreases-splits : goal.decreases-splits
-decreases-splits g l = left (l.m - l.t) (counts_of l.splits)
+abbrev pub decreases-loop-splits : goal.decreases-loop-splits
+decreases-loop-splits g l = left (l.m - l.t) (counts_of l.splits)

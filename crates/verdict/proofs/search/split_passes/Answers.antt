@@ -1,40 +1,26 @@
-use Rattle.std.proofs.Common.{◌≡◌, suc, ◌+◌, ap, ◌∙◌, add-one, arith}
-use Rattle.std.proofs.lemmas.List.{take_all}
-use Rattle.base.specs.Nets.{total}
+use Rattle.std.proofs.Common.{sym, subst}
 use Rattle.tables.specs.Table.{model}
-use Rattle.nets.proofs.SplitPlaces.{rows_before}
 use Rattle.verdict.proofs.SplitAnswers.{split_decides, split_digits, table_over}
-use Rattle.verdict.proofs.SplitFilling.{rows_before_more, rows_before_most}
+use Rattle.verdict.specs.Matrices.{DigitRows, digits_of}
+use Rattle.base.specs.Independence.{Independent}
+use Rattle.std.proofs.Common.{Decides}
 use Rattle.verdict.proofs.search.split_passes.Goals as goal
 
-pub overflow_add-count : goal.overflow_add-count
-overflow_add-count g c =
-    let counts = c.args.counts.now in
-    let j = c.loop-d.d-index in
-    omega (arith, rows_before_more counts j (omega arith), rows_before_most counts (suc j), c.args.table.now.narrow)
-
-pub loop-d-preserved : goal.loop-d-preserved
-loop-d-preserved g c =
-    let counts = c.args.counts.now in
-    let j = c.loop-d.d-index in
-    let next : rows_before counts (j + 1) ≡ rows_before counts (suc j) = ap (rows_before counts) (add-one j) in
-    omega (arith, next, rows_before_more counts j (omega arith))
-
-pub independent-requires : goal.independent-requires
-independent-requires g c =
-    let x = c.args.field.now in
-    let F = g.F.Field.means x in
+pub is_independent-requires : goal.is_independent-requires
+is_independent-requires g c =
+    let f = c.args.field.now in
+    let F = g.F.Field.means f in
     let table = c.args.table.now in
-    let counts = c.args.counts.now in
-    let all : c.loop-d.count ≡ total counts = c.loop-d.invariant ∙ ap total (take_all c.loop-d.d-index counts c.loop-d-test.false) in (
-      (omega (arith, all, table.narrow), omega (arith, table.narrow)),
-      split_digits F (model table) counts c.args.m c.loop-d.count c.split_rows.result all c.split_rows.ensures
-          (table_over F (g.met.F.Field.keeps x) table c.requires.0) c.requires.1.0 c.requires.1.1 c.requires.1.2,
-    )
+    let x = c.of_split.result in
+    let made = c.of_split.ensures in
+    subst (λ m. DigitRows F.q 0 x.count m x.rows) (sym made.columns)
+    (split_digits F (model table) c.args.counts.now c.args.m x.count x.rows made.count made.rows
+    (table_over F (g.met.F.Field.keeps f) table c.requires.same) c.requires.each c.requires.few c.requires.within)
 
 pub returns : goal.returns
 returns g c =
-    let counts = c.args.counts.now in
-    let all : c.loop-d.count ≡ total counts = c.loop-d.invariant ∙ ap total (take_all c.loop-d.d-index counts c.loop-d-test.false) in
-    split_decides (g.F.Field.means c.args.field.now) (model c.args.table.now) counts c.args.m c.loop-d.count
-    c.split_rows.result all c.split_rows.ensures c.independent.result c.independent.ensures
+    let F = g.F.Field.means c.args.field.now in
+    let x = c.of_split.result in
+    let made = c.of_split.ensures in
+    split_decides F (model c.args.table.now) c.args.counts.now c.args.m x.count x.rows made.count made.rows c.is_independent.result
+    (subst (λ m. Decides c.is_independent.result (Independent F x.count m (digits_of x.rows))) made.columns c.is_independent.ensures)

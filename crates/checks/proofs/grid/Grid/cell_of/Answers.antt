@@ -1,16 +1,10 @@
-use native.Mathlib.Nat.{pow-zero}
-use Rattle.std.proofs.Common.{◌+◌, ◌^◌, ◌<◌, ◌≤◌, get_or, drop, length, sym, refl, ap, ◌∙◌, subst, arith}
-use Rattle.std.proofs.lemmas.List.{at_drop_all, length_push, take_all}
-use Rattle.std.proofs.lemmas.Slice.Zip.{zip_end, zip_turn}
+use Rattle.std.proofs.Common.{◌+◌, get_or, length, refl, ap, ◌∙◌, arith}
+use Rattle.std.proofs.lemmas.List.{length_push}
+use Rattle.std.proofs.lemmas.Slice.Zip.{zip_turn}
 use Rattle.std.specs.Iterator.Adapters.{zip_first, zip_second}
 use Rattle.std.specs.Slice.Iter.{iter_rest}
-use Rattle.base.specs.Nets.{total}
-use Rattle.checks.specs.Counting.{cell_of}
 use Rattle.checks.proofs.Tallies.{cell_goes_on, cell_within_cells, cells_fit, count_within_total, divisor_is_some, grid_powers}
 use Rattle.checks.proofs.grid.Grid.cell_of.Goals as goal
-
-pub loop-d-init : goal.loop-d-init
-loop-d-init c = (refl, omega (arith, pow-zero c.args.self.now.shape.q))
 
 pub bounds-self-d : goal.bounds-self-d
 bounds-self-d c =
@@ -77,25 +71,9 @@ loop-d-preserved c =
     let ds = c.args.counts.now in
     let xs = c.args.point.now in
     let j = length c.loop-d.yielded in
-    rw (length_push c.loop-d.yielded (c.in-Some.d, c.in-Some.x), turn.2 0, c.from.ensures, turn.3 0)
-    (
+    rw (length_push c.loop-d.yielded (c.in-Some.d, c.in-Some.x), turn.2 0, c.from.ensures, turn.3 0) (
       cell_goes_on g.shape.q g.shape.digits g.powers ds xs j c.loop-d.cell (get_or xs j 0) (grid_powers g) c.requires.within turn.0 refl
           ∙ c.loop-d.invariant.0,
       cell_within_cells g.shape.q g.shape.digits g.powers ds j c.loop-d.cell (get_or xs j 0) (grid_powers g) c.requires.within turn.0
           (c.requires.digits j turn.1) c.loop-d.invariant.1,
     )
-
-pub returns : goal.returns
-returns c =
-    let g = c.args.self.now in
-    let ds = c.args.counts.now in
-    let j = length c.loop-d.yielded in
-    let all = zip_end ds c.args.point.now c.loop-d.yielded _ c.loop-d.d-iterator c.next.new.self c.next.result
-    (ap (λ z. iter_rest (zip_first z)) c.into_iter-d-iterator.ensures.into_iter_gives ∙ ap iter_rest c.zip-d-items.ensures.first ∙ c.iter.ensures.rest)
-    (ap (λ z. iter_rest (zip_second z)) c.into_iter-d-iterator.ensures.into_iter_gives ∙ c.zip-d-items.ensures.second.0)
-    c.loop-d.yielded_by c.in-None.is c.next.ensures.steps in
-    let past : length ds ≤ j = omega (arith, all, c.requires.each) in
-    record {
-      value = sym (at_drop_all (λ rest. cell_of g.shape.q g.shape.digits c.loop-d.cell rest (drop j c.args.point.now)) ds j past) ∙ c.loop-d.invariant.0;
-      bound = subst (λ front. c.loop-d.cell < g.shape.q ^ total front) (take_all j ds past) c.loop-d.invariant.1;
-    }

@@ -1,5 +1,5 @@
 use Rattle.std.proofs.Common.{◌≡◌, ℕ, ◌<◌, get_or}
-use Rattle.verdict.proofs.elimination.pivot_of.Given as goal
+use Rattle.verdict.proofs.matrix.pivot_of.Given as goal
 
 -- the columns so far are 0
 abbrev pub invariant-loop-column : goal.invariant-loop-column

@@ -1,9 +1,0 @@
-use Rattle.std.proofs.Common.{◌≡◌, ℕ, ◌<◌, length, get_or}
-use Rattle.tables.specs.Table.{model}
-use Rattle.verdict.proofs.rows.table_row.Given as goal
-
--- the columns so far hold the table's digits
-abbrev pub invariant-loop-column : goal.invariant-loop-column
-invariant-loop-column l =
-    (length l.digits ≡ 32)
-    × ((k : ℕ) → k < l.column → get_or l.digits k 0 ≡ (model l.table).entry l.coordinate l.row k)
