@@ -22,10 +22,14 @@ places_refused q M bytes i found =
     refused_in_turn (place_test q M bytes) 0 (length bytes) i (refusal 7 6 255 i) (omega arith) (omega (arith, found.within))
     (λ k low high. (λ bad. false≢true (sym (found.first k high) ∙ bad), tt)) (inl (found.bad, refl))
 
--- the bytes of the matrices of a shape fit an array of 8,192, so all of them stand there
-pub matrices_fit : (x : Shape) (q M s : ℕ) (bytes array : List ℕ) → HasShape q M s x → length bytes ≡ s * (M * M)
+-- the matrices of a shape have at most 8,192 bytes
+pub matrices_fit : (x : Shape) → x.coordinates * (x.digits * x.digits) ≤ 8192
+matrices_fit x =
+    mul-le x.coordinates (x.digits * x.digits) 8 1024 x.dimension.1 (mul-le x.digits x.digits 32 32 x.narrow x.narrow)
+
+-- so all of them stand in an array of as many
+pub matrices_stand : (x : Shape) (q M s : ℕ) (bytes array : List ℕ) → HasShape q M s x → length bytes ≡ s * (M * M)
     → ((i : ℕ) → i < 8192 → get_or array i 0 ≡ get_or bytes i 0) → BeginsWith bytes array
-matrices_fit x q M s bytes array is size same i low =
-    let fits : s * (M * M) ≤ 8192 =
-    rw (is.coordinates_are, is.digits_are) at (mul-le x.coordinates (x.digits * x.digits) 8 1024 x.dimension.1 (mul-le x.digits x.digits 32 32 x.narrow x.narrow)) in
+matrices_stand x q M s bytes array is size same i low =
+    let fits : s * (M * M) ≤ 8192 = rw (is.coordinates_are, is.digits_are) at (matrices_fit x) in
     same i (omega (arith, low, size, fits))
