@@ -51,7 +51,10 @@ impl Open {
     ghost use Rattle.run.specs.States.{Shows, at_answer, jump_answer, step_answer, verdict_answer, view_of};
 
     /// A copy of a table, at position 0.
-    pub(crate) fn new<F: Field, O: Order, S: Scrambler>(setup: &Setup<F, O, S>, table: &Table) -> Open
+    pub(crate) fn new<F: Field, O: Order, S: Scrambler>(
+        setup: &Setup<F, O, S>,
+        table: &Table,
+    ) -> Open
         requires { Agree (parts (F.Field.means setup.now.field) (O.Order.means setup.now.order) (S.Scrambler.means setup.now.scrambler)) (model table.now) }
         ensures table { result.table ≡ table.now }
         ensures position { result.position ≡ 0 }

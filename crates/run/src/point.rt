@@ -28,7 +28,12 @@ fn coordinate_numerator<S: Scrambler>(
     ensures value { Readable (model table.now).q ((S.Scrambler.means scrambler.now).scramble j (take (model table.now).digits coordinate.now.digits)) → result ≡ numerator (model table.now).q ((S.Scrambler.means scrambler.now).scramble j (take (model table.now).digits coordinate.now.digits)) }
 {
     let mut word = coordinate.digits;
-    scrambled(scrambler, j, &mut word[..table.digits() as usize], table.q())
+    scrambled(
+        scrambler,
+        j,
+        &mut word[..table.digits() as usize],
+        table.q(),
+    )
 }
 
 /// Writes the numerators of the point that the coordinates show.

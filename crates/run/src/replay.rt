@@ -117,7 +117,9 @@ impl<F: Field + Drop, O: Order + Drop, S: Scrambler + Drop> Run<F, O, S> {
                 Ok(Outcome::Jumped)
             }
             Call::At { position, room } => self.at_reply(position, &mut buffer[..room as usize]),
-            Call::Verdict { m } => Ok(Outcome::Least { t: self.verdict(m)? }),
+            Call::Verdict { m } => Ok(Outcome::Least {
+                t: self.verdict(m)?,
+            }),
         }
     }
 

@@ -1,8 +1,8 @@
-use Rattle.std.proofs.Common.{◌≡◌, ◌+◌, ◌<◌, ◌≤◌, length, min, ap, ◌∙◌, subst, ⊎_elim, arith, rules}
+use Rattle.std.proofs.Common.{◌≡◌, ◌<◌, ◌≤◌, length, min, ap, ◌∙◌, ⊎_elim, arith}
 use Rattle.std.proofs.lemmas.Bool.{cases_lt}
 use Rattle.std.proofs.lemmas.List.{length-set, set-get_or}
 use Rattle.tables.specs.Table.{model}
-use Rattle.run.specs.Present.{Changed, no_digits, shown}
+use Rattle.run.specs.Present.{no_digits, shown}
 use Rattle.run.proofs.Changes.{changed_none, changed_past, changed_turn}
 use Rattle.run.proofs.advance.change_all.Goals as goal
 use Rattle.run.proofs.advance.change_all.Goals.{in-Some, in_default}

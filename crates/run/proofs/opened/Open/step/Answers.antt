@@ -1,7 +1,6 @@
-use Rattle.std.proofs.Common.{◌≡◌, ◌+◌, ◌^◌, ◌<◌, ◌≤◌, length, ◌∙◌, arith, rules}
+use Rattle.std.proofs.Common.{◌≡◌, ◌^◌, ◌<◌, length, ◌∙◌, arith, rules}
 use Rattle.base.specs.Faults.{stated}
 use Rattle.tables.specs.Table.{model}
-use Rattle.run.specs.Present.{Moved}
 use Rattle.run.specs.Runs.{call_refused, parts}
 use Rattle.run.specs.States.{view_of}
 use Rattle.run.specs.declared.replay.Call.TheVariants.{Step}

@@ -1,8 +1,4 @@
-use Rattle.base.specs.Independence.{FirstPassing}
-use Rattle.tables.specs.Table.{model}
-use Rattle.run.specs.Runs.{call_tests, parts}
-use Rattle.run.specs.States.{view_of}
-use Rattle.run.specs.declared.replay.Call.TheVariants.{Verdict}
+use Rattle.run.specs.Runs.{parts}
 use Rattle.run.proofs.Standing.{verdict_answers, verdict_told}
 use Rattle.run.proofs.opened.Open.verdict.Goals as goal
 
