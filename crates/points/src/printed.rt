@@ -1,13 +1,11 @@
 //! What the program prints.
-use run::replay::{Call, Point, Reply};
+use run::replay::{Call, Outcome, Point, Reply};
 
 // Prints a position and its numerators.
 fn print_point(rt: &HostRuntime, position: u64, point: &Point) -> anyhow::Result<()> {
     print!(rt; "{position}")?;
-    for (j, numerator) in point.numerators.iter().enumerate() {
-        if j < point.coordinates as usize {
-            print!(rt; " {numerator}")?;
-        }
+    for numerator in point.numerators() {
+        print!(rt; " {numerator}")?;
     }
     println!(rt)?;
     Ok(())
@@ -15,20 +13,11 @@ fn print_point(rt: &HostRuntime, position: u64, point: &Point) -> anyhow::Result
 
 // Prints a call's reply.
 fn print_reply(rt: &HostRuntime, call: Call, reply: Reply) -> anyhow::Result<()> {
-    match reply {
-        Reply::Stepped {
-            position,
-            point,
-            ..
-        } => print_point(rt, position, &point)?,
-        Reply::Least { t } => {
-            if let Call::Verdict { m } = call {
-                println!(rt; "t {m} {t}")?;
-            }
-        }
-        Reply::Refused { fault } => println!(rt; "{fault}")?,
-        Reply::Jumped => {}
-        Reply::Pointed { .. } => {}
+    match (call, reply) {
+        (_, Ok(Outcome::Stepped { position, point, .. })) => print_point(rt, position, &point)?,
+        (Call::Verdict { m }, Ok(Outcome::Least { t })) => println!(rt; "t {m} {t}")?,
+        (_, Ok(_)) => {}
+        (_, Err(fault)) => println!(rt; "{fault}")?,
     }
     Ok(())
 }
