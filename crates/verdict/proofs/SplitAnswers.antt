@@ -15,7 +15,7 @@ use Rattle.tables.specs.declared.table.Table.{Table}
 use Rattle.verdict.specs.Matrices.{DigitRows, SplitRows, digits_of}
 
 -- the digits of a table are below q, so it is a table over any field with its q
-pub table_over : (F : FieldModel) → FieldLaws F → (x : Table) → F.q ≡ x.shape.q → TableOver F (model x)
+pub table_over : (F : FieldModel) → FieldLaws F → (x : Table) → F.q ≡ (model x).q → TableOver F (model x)
 table_over F laws x same = record { laws = laws; q = same; digits = λ j k l inside. x.small (place j k l) }
 
 module _ (F : FieldModel) (T : TableModel) (counts : List ℕ) (m n : ℕ) (rows : List (List ℕ)) (all : n ≡ total counts)

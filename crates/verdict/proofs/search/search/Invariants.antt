@@ -14,7 +14,7 @@ invariant-next g l = FailsBelow (g.F.Field.means l.field) (model l.table) l.m l.
 abbrev pub invariant-loop-splits : goal.invariant-loop-splits
 invariant-loop-splits g l =
     FailsBelow (g.F.Field.means l.field) (model l.table) l.m l.t
-    × PassedBefore l.table.shape.coordinates (l.m - l.t) (Passes (g.F.Field.means l.field) (model l.table) l.m) l.splits
+    × PassedBefore (model l.table).coordinates (l.m - l.t) (Passes (g.F.Field.means l.field) (model l.table) l.m) l.splits
 
 abbrev pub decreases-loop-splits : goal.decreases-loop-splits
 decreases-loop-splits g l = left (l.m - l.t) (counts_of l.splits)
