@@ -1,5 +1,5 @@
 //! The counting check: nets, sets that are none, and refusals. Expected numbers come from counting by a script.
-use crate::tests::{Numbers, check_refused};
+use base::faults::Numbers;
 use checks::check::least_t;
 use std::test::Fail;
 
@@ -61,41 +61,48 @@ fn eight_equal_coordinates(rt: HostRuntime) -> Result<(), Fail> {
 #[test]
 fn refused_in_order(rt: HostRuntime) -> Result<(), Fail> {
     let mut counters = [9u32; 4];
-    check_refused(
-        &rt,
-        least_t(1, 2, 1, 9, &[9], &mut counters),
-        Numbers(2, 4, 255, 0),
-    )?;
-    check_refused(
-        &rt,
-        least_t(2, 2, 9, 2, &[9], &mut counters),
-        Numbers(2, 4, 255, 0),
-    )?;
-    check_refused(
-        &rt,
-        least_t(2, 2, 1, 3, &[9], &mut counters),
-        Numbers(8, 4, 255, 0),
-    )?;
-    check_refused(
-        &rt,
-        least_t(2, 32, 1, 13, &[9], &mut counters),
-        Numbers(8, 4, 255, 0),
-    )?;
-    check_refused(
-        &rt,
-        least_t(2, 2, 1, 2, &[9], &mut counters),
-        Numbers(3, 4, 255, 0),
-    )?;
-    check_refused(
-        &rt,
-        least_t(2, 3, 1, 3, &[0, 1, 2, 3, 4, 5, 6, 7], &mut counters),
-        Numbers(3, 4, 255, 0),
-    )?;
-    check_refused(
-        &rt,
-        least_t(2, 2, 1, 2, &[0, 1, 4, 9], &mut counters),
-        Numbers(7, 4, 255, 2),
-    )?;
+    assert_eq!(rt;
+        least_t(1, 2, 1, 9, &[9], &mut counters)
+            .err()
+            .map(Numbers::from),
+        Some(Numbers(2, 4, 255, 0))
+    );
+    assert_eq!(rt;
+        least_t(2, 2, 9, 2, &[9], &mut counters)
+            .err()
+            .map(Numbers::from),
+        Some(Numbers(2, 4, 255, 0))
+    );
+    assert_eq!(rt;
+        least_t(2, 2, 1, 3, &[9], &mut counters)
+            .err()
+            .map(Numbers::from),
+        Some(Numbers(8, 4, 255, 0))
+    );
+    assert_eq!(rt;
+        least_t(2, 32, 1, 13, &[9], &mut counters)
+            .err()
+            .map(Numbers::from),
+        Some(Numbers(8, 4, 255, 0))
+    );
+    assert_eq!(rt;
+        least_t(2, 2, 1, 2, &[9], &mut counters)
+            .err()
+            .map(Numbers::from),
+        Some(Numbers(3, 4, 255, 0))
+    );
+    assert_eq!(rt;
+        least_t(2, 3, 1, 3, &[0, 1, 2, 3, 4, 5, 6, 7], &mut counters)
+            .err()
+            .map(Numbers::from),
+        Some(Numbers(3, 4, 255, 0))
+    );
+    assert_eq!(rt;
+        least_t(2, 2, 1, 2, &[0, 1, 4, 9], &mut counters)
+            .err()
+            .map(Numbers::from),
+        Some(Numbers(7, 4, 255, 2))
+    );
     assert_eq!(rt; counters[0], 9);
     assert_eq!(rt; counters[3], 9);
     Ok(())

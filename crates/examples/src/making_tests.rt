@@ -1,5 +1,5 @@
 //! Fields, orders, scramblers and Faure tables: what is made and what is refused. Expected numbers are worked out by hand.
-use crate::tests::{Numbers, check_refused};
+use base::faults::Numbers;
 use fields::bit::BitField;
 use fields::field::Field;
 use fields::four::FourField;
@@ -20,7 +20,10 @@ use tables::faure::faure_table;
 #[test]
 fn prime_fields(rt: HostRuntime) -> Result<(), Fail> {
     for q in [0u8, 1, 4, 6, 8, 9, 10, 12, 14, 15, 16, 17] {
-        check_refused(&rt, PrimeField::new(q), Numbers(1, 6, 255, 0))?;
+        assert_eq!(rt;
+            PrimeField::new(q).err().map(Numbers::from),
+            Some(Numbers(1, 6, 255, 0))
+        );
     }
     let seven = PrimeField::new(7)?;
     assert_eq!(rt; seven.inverse(3), Some(5));
@@ -47,12 +50,30 @@ fn bits_and_four(rt: HostRuntime) {
 #[test]
 fn orders_made_and_refused(rt: HostRuntime) -> Result<(), Fail> {
     assert!(rt; PlainOrder::new(3, 20).is_ok());
-    check_refused(&rt, PlainOrder::new(3, 21), Numbers(2, 6, 255, 0))?;
-    check_refused(&rt, GrayOrder::new(17, 1), Numbers(2, 6, 255, 0))?;
-    check_refused(&rt, GrayOrder::new(2, 0), Numbers(2, 6, 255, 0))?;
-    check_refused(&rt, ShiftedOrder::new(3, 21, &[9]), Numbers(2, 6, 255, 0))?;
-    check_refused(&rt, ShiftedOrder::new(3, 2, &[9]), Numbers(3, 6, 255, 0))?;
-    check_refused(&rt, ShiftedOrder::new(3, 2, &[2, 3]), Numbers(7, 6, 255, 1))?;
+    assert_eq!(rt;
+        PlainOrder::new(3, 21).err().map(Numbers::from),
+        Some(Numbers(2, 6, 255, 0))
+    );
+    assert_eq!(rt;
+        GrayOrder::new(17, 1).err().map(Numbers::from),
+        Some(Numbers(2, 6, 255, 0))
+    );
+    assert_eq!(rt;
+        GrayOrder::new(2, 0).err().map(Numbers::from),
+        Some(Numbers(2, 6, 255, 0))
+    );
+    assert_eq!(rt;
+        ShiftedOrder::new(3, 21, &[9]).err().map(Numbers::from),
+        Some(Numbers(2, 6, 255, 0))
+    );
+    assert_eq!(rt;
+        ShiftedOrder::new(3, 2, &[9]).err().map(Numbers::from),
+        Some(Numbers(3, 6, 255, 0))
+    );
+    assert_eq!(rt;
+        ShiftedOrder::new(3, 2, &[2, 3]).err().map(Numbers::from),
+        Some(Numbers(7, 6, 255, 1))
+    );
     // The digits 0 and 1 of position 4 give (0 - 1) mod 4 = 3, and not 1 as in the field of four.
     let gray = GrayOrder::new(4, 2)?;
     assert_eq!(rt; gray.index(4), 7);
@@ -63,45 +84,59 @@ fn orders_made_and_refused(rt: HostRuntime) -> Result<(), Fail> {
 
 #[test]
 fn scramblers_made_and_refused(rt: HostRuntime) -> Result<(), Fail> {
-    check_refused(&rt, NoScrambler::new(2, 33, 1), Numbers(2, 6, 255, 0))?;
-    check_refused(&rt, KeyedScrambler::new(2, 2, 9, 0), Numbers(2, 6, 255, 0))?;
-    check_refused(
-        &rt,
-        ShiftScrambler::new(2, 2, 2, &[0, 1, 1]),
-        Numbers(3, 6, 255, 0),
-    )?;
-    check_refused(
-        &rt,
-        ShiftScrambler::new(2, 2, 1, &[0, 2]),
-        Numbers(7, 6, 255, 1),
-    )?;
+    assert_eq!(rt;
+        NoScrambler::new(2, 33, 1).err().map(Numbers::from),
+        Some(Numbers(2, 6, 255, 0))
+    );
+    assert_eq!(rt;
+        KeyedScrambler::new(2, 2, 9, 0).err().map(Numbers::from),
+        Some(Numbers(2, 6, 255, 0))
+    );
+    assert_eq!(rt;
+        ShiftScrambler::new(2, 2, 2, &[0, 1, 1])
+            .err()
+            .map(Numbers::from),
+        Some(Numbers(3, 6, 255, 0))
+    );
+    assert_eq!(rt;
+        ShiftScrambler::new(2, 2, 1, &[0, 2])
+            .err()
+            .map(Numbers::from),
+        Some(Numbers(7, 6, 255, 1))
+    );
     let bits = BitField;
-    check_refused(
-        &rt,
-        LinearScrambler::new(bits, 2, 1, &[1, 0, 1]),
-        Numbers(3, 6, 255, 0),
-    )?;
-    check_refused(
-        &rt,
-        LinearScrambler::new(bits, 2, 1, &[1, 0, 1, 0]),
-        Numbers(7, 6, 255, 3),
-    )?;
-    check_refused(
-        &rt,
-        LinearScrambler::new(bits, 2, 1, &[1, 1, 1, 1]),
-        Numbers(7, 6, 255, 1),
-    )?;
-    check_refused(
-        &rt,
-        LinearScrambler::new(bits, 2, 1, &[1, 0, 2, 1]),
-        Numbers(7, 6, 255, 2),
-    )?;
+    assert_eq!(rt;
+        LinearScrambler::new(bits, 2, 1, &[1, 0, 1])
+            .err()
+            .map(Numbers::from),
+        Some(Numbers(3, 6, 255, 0))
+    );
+    assert_eq!(rt;
+        LinearScrambler::new(bits, 2, 1, &[1, 0, 1, 0])
+            .err()
+            .map(Numbers::from),
+        Some(Numbers(7, 6, 255, 3))
+    );
+    assert_eq!(rt;
+        LinearScrambler::new(bits, 2, 1, &[1, 1, 1, 1])
+            .err()
+            .map(Numbers::from),
+        Some(Numbers(7, 6, 255, 1))
+    );
+    assert_eq!(rt;
+        LinearScrambler::new(bits, 2, 1, &[1, 0, 2, 1])
+            .err()
+            .map(Numbers::from),
+        Some(Numbers(7, 6, 255, 2))
+    );
     let wide = NoScrambler::new(2, 3, 1)?;
-    check_refused(
-        &rt,
-        ChainScrambler::new(NoScrambler::new(2, 2, 1)?, wide),
-        Numbers(9, 6, 255, 0),
-    )
+    assert_eq!(rt;
+        ChainScrambler::new(NoScrambler::new(2, 2, 1)?, wide)
+            .err()
+            .map(Numbers::from),
+        Some(Numbers(9, 6, 255, 0))
+    );
+    Ok(())
 }
 
 #[test]
@@ -122,9 +157,18 @@ fn words_in_place(rt: HostRuntime) -> Result<(), Fail> {
 #[test]
 fn faure_tables(rt: HostRuntime) -> Result<(), Fail> {
     let three = PrimeField::new(3)?;
-    check_refused(&rt, faure_table(&three, 21, 3), Numbers(2, 2, 255, 0))?;
-    check_refused(&rt, faure_table(&three, 2, 9), Numbers(2, 2, 255, 0))?;
-    check_refused(&rt, faure_table(&three, 2, 4), Numbers(9, 2, 255, 0))?;
+    assert_eq!(rt;
+        faure_table(&three, 21, 3).err().map(Numbers::from),
+        Some(Numbers(2, 2, 255, 0))
+    );
+    assert_eq!(rt;
+        faure_table(&three, 2, 9).err().map(Numbers::from),
+        Some(Numbers(2, 2, 255, 0))
+    );
+    assert_eq!(rt;
+        faure_table(&three, 2, 4).err().map(Numbers::from),
+        Some(Numbers(9, 2, 255, 0))
+    );
     let table = faure_table(&three, 4, 3)?;
     // (2 + X)^3 = 8 + 12 X + 6 X^2 + X^3, which is 2 + X^3 modulo 3.
     assert_eq!(rt; table.entry(2, 1, 3), Some(2));

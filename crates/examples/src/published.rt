@@ -25,11 +25,9 @@ pub fn print_list(rt: &HostRuntime, list: &[u8]) -> anyhow::Result<()> {
 // Prints each record of a list with the table's rows.
 fn print_records(rt: &HostRuntime, list: &[u8], table: &Table) -> anyhow::Result<()> {
     let mut reader = Reader::new(list)?;
-    for _ in 0..table.coordinates() {
-        if let Some(record) = reader.next()? {
-            print_record(rt, &record)?;
-            print_rows(rt, table, record.coordinate)?;
-        }
+    while let Some(record) = reader.next()? {
+        print_record(rt, &record)?;
+        print_rows(rt, table, record.coordinate)?;
     }
     Ok(())
 }
@@ -56,7 +54,7 @@ fn print_record(rt: &HostRuntime, record: &Record) -> anyhow::Result<()> {
 
 // Prints the first rows of a coordinate's digits.
 fn print_rows(rt: &HostRuntime, table: &Table, coordinate: u8) -> anyhow::Result<()> {
-    for row in 1..ROWS + 1 {
+    for row in 1..=ROWS {
         print!(rt; "  row {row}")?;
         for column in 0..table.digits() {
             if let Some(digit) = table.entry(coordinate, row, column) {

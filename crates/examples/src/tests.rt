@@ -1,44 +1,42 @@
 //! Lists that are accepted and refused, and raw tables. Expected numbers are worked out by hand.
 use crate::lists::{GOOD, THIRTY_ONE};
-use base::faults::Fault;
-use std::process::Abort;
+use base::faults::Numbers;
 use std::test::Fail;
 use tables::raw::raw_table;
 use tables::reader::Reader;
 use tables::sobol::sobol_table;
 
-// What a call should be refused with.
-#[derive(Clone, Copy)]
-pub(crate) struct Numbers(pub u8, pub u8, pub u8, pub usize);
-
-// Checks that a call was refused with these numbers.
-pub(crate) fn check_refused<T: Drop>(
-    rt: &impl Abort,
-    answer: Result<T, Fault>,
-    expected: Numbers,
-) -> Result<(), Fail> {
-    match answer {
-        Ok(_) => Err(Fail::new("accepted")),
-        Err(fault) => {
-            assert_eq!(rt; fault.kind.number(), expected.0);
-            assert_eq!(rt; fault.layer.number(), expected.1);
-            assert_eq!(rt; fault.coordinate, expected.2);
-            assert_eq!(rt; fault.place, expected.3);
-            Ok(())
-        }
-    }
-}
-
 #[test]
 fn lists_of_other_sizes(rt: HostRuntime) -> Result<(), Fail> {
-    check_refused(&rt, sobol_table(&[], 16), Numbers(3, 1, 255, 0))?;
-    check_refused(&rt, sobol_table(&[0u8; 19], 16), Numbers(3, 1, 255, 0))?;
-    check_refused(&rt, sobol_table(&[0u8; 180], 16), Numbers(2, 1, 255, 0))?;
-    check_refused(&rt, sobol_table(GOOD, 0), Numbers(2, 2, 255, 0))?;
-    check_refused(&rt, sobol_table(GOOD, 33), Numbers(2, 2, 255, 0))?;
+    assert_eq!(rt;
+        sobol_table(&[], 16).err().map(Numbers::from),
+        Some(Numbers(3, 1, 255, 0))
+    );
+    assert_eq!(rt;
+        sobol_table(&[0u8; 19], 16).err().map(Numbers::from),
+        Some(Numbers(3, 1, 255, 0))
+    );
+    assert_eq!(rt;
+        sobol_table(&[0u8; 180], 16).err().map(Numbers::from),
+        Some(Numbers(2, 1, 255, 0))
+    );
+    assert_eq!(rt;
+        sobol_table(GOOD, 0).err().map(Numbers::from),
+        Some(Numbers(2, 2, 255, 0))
+    );
+    assert_eq!(rt;
+        sobol_table(GOOD, 33).err().map(Numbers::from),
+        Some(Numbers(2, 2, 255, 0))
+    );
     // The list is tested before the number of digits, and that before any record.
-    check_refused(&rt, sobol_table(&[0u8; 19], 33), Numbers(3, 1, 255, 0))?;
-    check_refused(&rt, sobol_table(&[1u8; 20], 33), Numbers(2, 2, 255, 0))?;
+    assert_eq!(rt;
+        sobol_table(&[0u8; 19], 33).err().map(Numbers::from),
+        Some(Numbers(3, 1, 255, 0))
+    );
+    assert_eq!(rt;
+        sobol_table(&[1u8; 20], 33).err().map(Numbers::from),
+        Some(Numbers(2, 2, 255, 0))
+    );
     assert!(rt; sobol_table(GOOD, 32).is_ok());
     Ok(())
 }
@@ -62,7 +60,10 @@ fn one_byte_put_wrong(rt: HostRuntime) -> Result<(), Fail> {
         let mut list = *GOOD;
         assert!(rt; place < 40);
         list[place] = value;
-        check_refused(&rt, sobol_table(&list, 16), expected)?;
+        assert_eq!(rt;
+            sobol_table(&list, 16).err().map(Numbers::from),
+            Some(expected)
+        );
     }
     Ok(())
 }
@@ -72,14 +73,25 @@ fn a_record_bad_in_two_ways(rt: HostRuntime) -> Result<(), Fail> {
     let mut list = *GOOD;
     list[28] = 6;
     list[22] = 15;
-    check_refused(&rt, sobol_table(&list, 16), Numbers(5, 2, 1, 20))?;
+    assert_eq!(rt;
+        sobol_table(&list, 16).err().map(Numbers::from),
+        Some(Numbers(5, 2, 1, 20))
+    );
     list[21] = 1;
-    check_refused(&rt, sobol_table(&list, 16), Numbers(4, 1, 1, 20))
+    assert_eq!(rt;
+        sobol_table(&list, 16).err().map(Numbers::from),
+        Some(Numbers(4, 1, 1, 20))
+    );
+    Ok(())
 }
 
 #[test]
 fn irreducible_is_not_primitive(rt: HostRuntime) -> Result<(), Fail> {
-    check_refused(&rt, sobol_table(THIRTY_ONE, 16), Numbers(5, 2, 0, 0))
+    assert_eq!(rt;
+        sobol_table(THIRTY_ONE, 16).err().map(Numbers::from),
+        Some(Numbers(5, 2, 0, 0))
+    );
+    Ok(())
 }
 
 #[test]
@@ -125,12 +137,9 @@ fn rows_of_polynomial_eleven(rt: HostRuntime) -> Result<(), Fail> {
         [0, 0, 0, 0, 0, 1],
     ];
     let table = sobol_table(GOOD, 6)?;
-    for row in 0..6u8 {
-        for column in 0..6u8 {
-            assert_eq!(rt;
-                table.entry(1, row + 1, column),
-                Some(rows[row as usize][column as usize])
-            );
+    for (row, digits) in rows.iter().enumerate() {
+        for (column, digit) in digits.iter().enumerate() {
+            assert_eq!(rt; table.entry(1, row as u8 + 1, column as u8), Some(*digit));
         }
     }
     assert_eq!(rt; table.entry(1, 0, 0), None);
@@ -146,12 +155,37 @@ fn raw_tables(rt: HostRuntime) -> Result<(), Fail> {
     assert_eq!(rt; table.entry(0, 1, 1), Some(1));
     assert_eq!(rt; table.entry(0, 2, 0), Some(2));
     assert_eq!(rt; table.entry(1, 2, 0), Some(1));
-    check_refused(&rt, raw_table(2, 2, 2, &bytes), Numbers(7, 2, 255, 2))?;
-    check_refused(&rt, raw_table(3, 2, 1, &bytes), Numbers(3, 2, 255, 0))?;
-    check_refused(&rt, raw_table(1, 2, 2, &bytes), Numbers(2, 2, 255, 0))?;
-    check_refused(&rt, raw_table(17, 2, 1, &bytes), Numbers(2, 2, 255, 0))?;
-    check_refused(&rt, raw_table(3, 0, 2, &bytes), Numbers(2, 2, 255, 0))?;
-    check_refused(&rt, raw_table(3, 21, 2, &bytes), Numbers(2, 2, 255, 0))?;
-    check_refused(&rt, raw_table(3, 20, 2, &bytes), Numbers(3, 2, 255, 0))?;
-    check_refused(&rt, raw_table(3, 2, 9, &bytes), Numbers(2, 2, 255, 0))
+    assert_eq!(rt;
+        raw_table(2, 2, 2, &bytes).err().map(Numbers::from),
+        Some(Numbers(7, 2, 255, 2))
+    );
+    assert_eq!(rt;
+        raw_table(3, 2, 1, &bytes).err().map(Numbers::from),
+        Some(Numbers(3, 2, 255, 0))
+    );
+    assert_eq!(rt;
+        raw_table(1, 2, 2, &bytes).err().map(Numbers::from),
+        Some(Numbers(2, 2, 255, 0))
+    );
+    assert_eq!(rt;
+        raw_table(17, 2, 1, &bytes).err().map(Numbers::from),
+        Some(Numbers(2, 2, 255, 0))
+    );
+    assert_eq!(rt;
+        raw_table(3, 0, 2, &bytes).err().map(Numbers::from),
+        Some(Numbers(2, 2, 255, 0))
+    );
+    assert_eq!(rt;
+        raw_table(3, 21, 2, &bytes).err().map(Numbers::from),
+        Some(Numbers(2, 2, 255, 0))
+    );
+    assert_eq!(rt;
+        raw_table(3, 20, 2, &bytes).err().map(Numbers::from),
+        Some(Numbers(3, 2, 255, 0))
+    );
+    assert_eq!(rt;
+        raw_table(3, 2, 9, &bytes).err().map(Numbers::from),
+        Some(Numbers(2, 2, 255, 0))
+    );
+    Ok(())
 }

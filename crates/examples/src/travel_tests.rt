@@ -1,5 +1,5 @@
 //! Travel scaling: what is written and what is refused. Expected numbers are worked out by hand.
-use crate::tests::{Numbers, check_refused};
+use base::faults::Numbers;
 use checks::travel::{Travel, settings};
 use std::test::Fail;
 
@@ -32,31 +32,36 @@ fn settings_written(rt: HostRuntime) -> Result<(), Fail> {
 fn settings_refused_in_order(rt: HostRuntime) -> Result<(), Fail> {
     let mut out = [5u16];
     let none = Travel { low: 0, span: 0 };
-    check_refused(
-        &rt,
-        settings(2, 3, 1, &[8], &[FULL], &mut out),
-        Numbers(7, 5, 255, 0),
-    )?;
-    check_refused(
-        &rt,
-        settings(2, 33, 1, &[8, 8], &[none], &mut out),
-        Numbers(2, 5, 255, 0),
-    )?;
-    check_refused(
-        &rt,
-        settings(2, 3, 9, &[8, 8], &[none], &mut out),
-        Numbers(2, 5, 255, 0),
-    )?;
-    check_refused(
-        &rt,
-        settings(2, 3, 1, &[8, 8], &[none], &mut out),
-        Numbers(3, 5, 255, 0),
-    )?;
-    check_refused(
-        &rt,
-        settings(2, 3, 1, &[8], &[none, FULL], &mut out),
-        Numbers(3, 5, 255, 0),
-    )?;
+    assert_eq!(rt;
+        settings(2, 3, 1, &[8], &[FULL], &mut out)
+            .err()
+            .map(Numbers::from),
+        Some(Numbers(7, 5, 255, 0))
+    );
+    assert_eq!(rt;
+        settings(2, 33, 1, &[8, 8], &[none], &mut out)
+            .err()
+            .map(Numbers::from),
+        Some(Numbers(2, 5, 255, 0))
+    );
+    assert_eq!(rt;
+        settings(2, 3, 9, &[8, 8], &[none], &mut out)
+            .err()
+            .map(Numbers::from),
+        Some(Numbers(2, 5, 255, 0))
+    );
+    assert_eq!(rt;
+        settings(2, 3, 1, &[8, 8], &[none], &mut out)
+            .err()
+            .map(Numbers::from),
+        Some(Numbers(3, 5, 255, 0))
+    );
+    assert_eq!(rt;
+        settings(2, 3, 1, &[8], &[none, FULL], &mut out)
+            .err()
+            .map(Numbers::from),
+        Some(Numbers(3, 5, 255, 0))
+    );
     assert_eq!(rt; out[0], 5);
     Ok(())
 }
@@ -69,21 +74,24 @@ fn numerators_before_spans(rt: HostRuntime) -> Result<(), Fail> {
         low: 1,
         span: 65536,
     };
-    check_refused(
-        &rt,
-        settings(2, 3, 1, &[8], &[none], &mut out),
-        Numbers(7, 5, 255, 0),
-    )?;
-    check_refused(
-        &rt,
-        settings(2, 3, 1, &[7], &[none], &mut out),
-        Numbers(8, 5, 255, 0),
-    )?;
-    check_refused(
-        &rt,
-        settings(2, 3, 1, &[7], &[too_far], &mut out),
-        Numbers(8, 5, 255, 0),
-    )?;
+    assert_eq!(rt;
+        settings(2, 3, 1, &[8], &[none], &mut out)
+            .err()
+            .map(Numbers::from),
+        Some(Numbers(7, 5, 255, 0))
+    );
+    assert_eq!(rt;
+        settings(2, 3, 1, &[7], &[none], &mut out)
+            .err()
+            .map(Numbers::from),
+        Some(Numbers(8, 5, 255, 0))
+    );
+    assert_eq!(rt;
+        settings(2, 3, 1, &[7], &[too_far], &mut out)
+            .err()
+            .map(Numbers::from),
+        Some(Numbers(8, 5, 255, 0))
+    );
     assert_eq!(rt; out[0], 5);
     Ok(())
 }

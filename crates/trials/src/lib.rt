@@ -4,6 +4,4 @@
 #[cfg(test)]
 mod net_tests;
 #[cfg(test)]
-mod refusals;
-#[cfg(test)]
 mod run_tests;

@@ -1,11 +1,15 @@
 //! A run on the list of two coordinates, with M = 3: its points by hand, and what its calls are refused with.
-use crate::refusals::{GOOD, Numbers, check_refused};
+use base::faults::Numbers;
 use fields::bit::BitField;
 use orders::plain::PlainOrder;
 use run::run::Run;
 use scramblers::none::NoScrambler;
 use std::test::Fail;
 use tables::sobol::sobol_table;
+
+// A coordinate of degree 0, and the polynomial 11 with 1, 3, 7.
+const GOOD: &[u8; 40] =
+    b"\0\0\x01\0\0\0\0\0\0\0\0\0\0\0\0\0\0\0\0\0\x03\0\x0b\0\x01\0\x03\0\x07\0\0\0\0\0\0\0\0\0\0\0";
 
 #[test]
 fn points_and_changed_digits(rt: HostRuntime) -> Result<(), Fail> {
@@ -32,7 +36,7 @@ fn points_and_changed_digits(rt: HostRuntime) -> Result<(), Fail> {
         assert_eq!(rt; out[1], second);
         position = handed.wrapping_add(1);
     }
-    check_refused(&rt, run.step(&mut [9; 2]), Numbers(21, 3, 255, 0))?;
+    assert_eq!(rt; run.step(&mut [9; 2]).err().map(Numbers::from), Some(Numbers(21, 3, 255, 0)));
     let mut out = [9u32; 2];
     run.at(5, &mut out)?;
     assert_eq!(rt; out[1], 3);
@@ -45,17 +49,18 @@ fn points_and_changed_digits(rt: HostRuntime) -> Result<(), Fail> {
 #[test]
 fn refused_calls(rt: HostRuntime) -> Result<(), Fail> {
     let mut run = Run::new(BitField, PlainOrder::new(2, 3)?, NoScrambler::new(2, 3, 2)?);
-    check_refused(&rt, run.step(&mut [9; 2]), Numbers(20, 3, 255, 0))?;
-    check_refused(&rt, run.jump(0), Numbers(20, 3, 255, 0))?;
-    check_refused(&rt, run.at(0, &mut [9; 2]), Numbers(20, 3, 255, 0))?;
-    check_refused(&rt, run.verdict(0), Numbers(20, 3, 255, 0))?;
-    check_refused(&rt, run.start(&[0; 19], 3), Numbers(3, 1, 255, 0))?;
-    check_refused(&rt, run.start(GOOD, 4), Numbers(9, 3, 255, 0))?;
-    check_refused(&rt, run.open(&sobol_table(GOOD, 4)?), Numbers(9, 3, 255, 0))?;
+    assert_eq!(rt; run.step(&mut [9; 2]).err().map(Numbers::from), Some(Numbers(20, 3, 255, 0)));
+    assert_eq!(rt; run.jump(0).err().map(Numbers::from), Some(Numbers(20, 3, 255, 0)));
+    assert_eq!(rt; run.at(0, &mut [9; 2]).err().map(Numbers::from), Some(Numbers(20, 3, 255, 0)));
+    assert_eq!(rt; run.verdict(0).err().map(Numbers::from), Some(Numbers(20, 3, 255, 0)));
+    assert_eq!(rt; run.start(&[0; 19], 3).err().map(Numbers::from), Some(Numbers(3, 1, 255, 0)));
+    assert_eq!(rt; run.start(GOOD, 4).err().map(Numbers::from), Some(Numbers(9, 3, 255, 0)));
+    assert_eq!(rt; run.open(&sobol_table(GOOD, 4)?).err().map(Numbers::from), Some(Numbers(9, 3, 255, 0)));
     run.start(GOOD, 3)?;
-    check_refused(&rt, run.step(&mut [9; 3]), Numbers(3, 3, 255, 0))?;
-    check_refused(&rt, run.at(8, &mut [9; 3]), Numbers(3, 3, 255, 0))?;
-    check_refused(&rt, run.at(8, &mut [9; 2]), Numbers(8, 3, 255, 0))?;
-    check_refused(&rt, run.jump(8), Numbers(8, 3, 255, 0))?;
-    check_refused(&rt, run.verdict(4), Numbers(8, 3, 255, 0))
+    assert_eq!(rt; run.step(&mut [9; 3]).err().map(Numbers::from), Some(Numbers(3, 3, 255, 0)));
+    assert_eq!(rt; run.at(8, &mut [9; 3]).err().map(Numbers::from), Some(Numbers(3, 3, 255, 0)));
+    assert_eq!(rt; run.at(8, &mut [9; 2]).err().map(Numbers::from), Some(Numbers(8, 3, 255, 0)));
+    assert_eq!(rt; run.jump(8).err().map(Numbers::from), Some(Numbers(8, 3, 255, 0)));
+    assert_eq!(rt; run.verdict(4).err().map(Numbers::from), Some(Numbers(8, 3, 255, 0)));
+    Ok(())
 }
