@@ -96,6 +96,7 @@ impl From<Fault> for Numbers {
 }
 
 impl Kind {
+    // The variants carry their numbers, so `as` is the conversion; a `From` beside the method would only say it twice.
     /// The stated number of this cause.
     pub fn number(self) -> u8
         ensures { result ≡ kind_number self }

@@ -24,7 +24,7 @@ pub fn keep_limits(q: u8, digits: u8, coordinates: u8) -> bool
 }
 
 /// q and the numbers of digits and of coordinates, within their limits, and the number of positions, q^digits.
-#[derive(Clone, Copy)]
+#[derive(Clone, Copy, PartialEq, Eq, Debug)]
 pub struct Shape {
     pub q: u8,
     pub digits: u8,

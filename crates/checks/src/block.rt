@@ -1,5 +1,5 @@
 //! Blocks of points, counted in the cells of splits.
-ghost use Rattle.std.specs.Prelude.{◌≡◌, ℕ, ◌-◌, ◌*◌, ◌^◌, ◌<◌, ◌≤◌, ◌↔◌, IsTrue, List, length, nat_eq, slice_index};
+ghost use Rattle.std.specs.Prelude.{◌≡◌, ℕ, ◌-◌, ◌*◌, ◌^◌, ◌<◌, ◌≤◌, ◌↔◌, IsTrue, List, length, replicate, nat_eq, slice_index};
 ghost use Rattle.base.specs.Digits.{AllDigits};
 ghost use Rattle.base.specs.Nets.{Even, Least, Net, Split, count, total};
 ghost use Rattle.base.specs.Tests.{Gives};
@@ -16,6 +16,15 @@ fn all_equal(counters: &[u32], expected: u32) -> bool
     ensures { IsTrue result ↔ ((c : ℕ) → c < length counters.now → slice_index counters.now c ≡ expected) }
 {
     counters.iter().all(|counter| *counter == expected)
+}
+
+// Sets each counter to 0: a loop over the counters, as over the points, since the check is to be read as one.
+pub(crate) fn clear(counters: &mut [u32])
+    ensures { counters.new ≡ replicate (length counters.old) 0 }
+{
+    for counter in counters.iter_mut() {
+        *counter = 0;
+    }
 }
 
 /// A block of q^m points, one after the other, of which each numerator is below q^digits.
@@ -65,7 +74,7 @@ impl<'a> Block<'a> {
         requires sizes { length cells.old ≡ self.now.grid.shape.q ^ total counts.now }
         ensures { (c : ℕ) → c < length cells.new → slice_index cells.new c ≡ count (λ p. nat_eq (cell_of self.now.grid.shape.q self.now.grid.shape.digits 0 counts.now p) c) (points_of self.now.grid.shape.coordinates self.now.size self.now.points.now) }
     {
-        cells.fill(0);
+        clear(cells);
         let s = self.grid.shape.coordinates as usize;
         for point in self.points.chunks_exact(s) {
             let cell = self.grid.cell_of(counts, point);

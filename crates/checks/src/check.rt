@@ -4,7 +4,7 @@ ghost use Rattle.base.specs.Nets.{Least, Net};
 ghost use Rattle.base.specs.Tests.{Gives};
 ghost use Rattle.checks.specs.Counting.{Cleared, check_tests, points_of};
 
-use crate::block::Block;
+use crate::block::{Block, clear};
 use base::faults::{Fault, Layer};
 use base::limits::Shape;
 
@@ -25,6 +25,6 @@ pub fn least_t(
     let block = Block::new(shape, m, points, counters.len())?;
     let used = &mut counters[..block.size];
     let t = block.least_t(used);
-    used.fill(0);
+    clear(used);
     Ok(t)
 }

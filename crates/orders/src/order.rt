@@ -9,6 +9,8 @@ ghost use Rattle.base.specs.Orders.{OrderLaws, OrderModel};
 pub trait Order {
     ghost means: { Self → OrderModel };
 
+    // Each order answers these itself: defaults over one method for both would ask more of whoever writes an order.
+
     /// The number of different digits.
     fn q(&self) -> u8
         ensures { result ≡ (means self.now).q };

@@ -47,6 +47,7 @@ pub(crate) fn write_point<S: Scrambler>(
     ensures size { length out.new ≡ length out.old }
     ensures numerators { (j : ℕ) → j < length out.old → Writes (S.Scrambler.means scrambler.now) (model table.now).q (model table.now).digits coordinates.now j (slice_index out.new j) }
 {
+    // j is the coordinate that the scrambler is asked about, and not only a place.
     for (j, x) in out.iter_mut().enumerate() {
         *x = coordinate_numerator(scrambler, table, j as u8, &coordinates[j]);
     }

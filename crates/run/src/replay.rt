@@ -129,6 +129,7 @@ impl<F: Field + Drop, O: Order + Drop, S: Scrambler + Drop> Run<F, O, S> {
         ensures history { History (parts (F.Field.means self.old.setup.field) (O.Order.means self.old.setup.order) (S.Scrambler.means self.old.setup.scrambler)) (view self.old.state) (log_of calls.now log.new) (view self.new.state) }
         ensures same { self.new.setup ≡ self.old.setup }
     {
+        // The log is written by index: what a `zip` over `iter_mut` leaves in it is not known to a proof.
         for (i, call) in calls.iter().enumerate() {
             log[i] = self.make(*call);
         }
@@ -150,6 +151,7 @@ impl<F: Field + Drop, O: Order + Drop, S: Scrambler + Drop> Run<F, O, S> {
         Ok(())
     }
 
+    // A twin of `replay` but for how it opens: a closure that opens would say less plainly what the run means afterwards.
     /// The same from a direction list and M: it starts a run on the list's Sobol' table and makes the calls.
     pub fn replay_list(
         &mut self,

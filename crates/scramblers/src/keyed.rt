@@ -12,7 +12,7 @@ use base::faults::{Fault, Layer};
 use base::limits::Shape;
 
 /// The scrambler of a 32-bit key.
-#[derive(Clone, Copy)]
+#[derive(Clone, Copy, Debug, PartialEq, Eq)]
 pub struct KeyedScrambler {
     shape: Shape,
     key: u32,

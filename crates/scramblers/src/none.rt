@@ -12,7 +12,7 @@ use base::faults::{Fault, Layer};
 use base::limits::Shape;
 
 /// The scrambler that keeps each word.
-#[derive(Clone, Copy)]
+#[derive(Clone, Copy, Debug, PartialEq, Eq)]
 pub struct NoScrambler {
     shape: Shape,
 }

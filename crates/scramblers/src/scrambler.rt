@@ -9,6 +9,8 @@ ghost use Rattle.base.specs.Scramblers.{ScramblerLaws, ScramblerModel};
 pub trait Scrambler {
     ghost means: { Self → ScramblerModel };
 
+    // Each scrambler answers these itself: defaults over one method for all would ask more of whoever writes a scrambler.
+
     /// The number of different digits.
     fn q(&self) -> u8
         ensures { result ≡ (means self.now).q };

@@ -56,8 +56,8 @@ fn all_columns<F: Field>(field: &F, coordinates: u8) -> [[[u8; 32]; 32]; 8]
     ensures { PowerColumns (F.Field.means field.now) coordinates result }
 {
     let mut columns = [[[0u8; 32]; 32]; 8];
-    for a in 0..coordinates {
-        columns[a as usize] = powers(field, a);
+    for (a, powers_of_a) in columns[..coordinates as usize].iter_mut().enumerate() {
+        *powers_of_a = powers(field, a as u8);
     }
     columns
 }

@@ -15,11 +15,11 @@ returns-clause-answer c =
     let b = c.in_ok-block.block in
     let found = found_of_block c.in_ok-shape.shape a.q a.digits a.coordinates a.m c.least_t-t.result a.points.now b made.1 block.1.0
     block.1.1 block.1.2 c.least_t-t.ensures in
-    let zeros : c.fill.new.self ≡ replicate b.size 0 = grind (arith, common_steps) in (
+    let zeros : c.clear.new.counters ≡ replicate b.size 0 = grind (arith, common_steps) in (
       (
         made.0.0,
         subst₃ (λ q M s. Clean (block_tests q M s a.m a.points.now (length a.counters.now))) made.1.q_is made.1.digits_are
             made.1.coordinates_are block.0,
       ),
-      (found.1, cleared_front _ b.size c.fill.new.self a.counters.now found.0 zeros),
+      (found.1, cleared_front _ b.size c.clear.new.counters a.counters.now found.0 zeros),
     )

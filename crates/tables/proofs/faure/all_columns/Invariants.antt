@@ -4,4 +4,4 @@ use Rattle.tables.proofs.faure.all_columns.Given as goal
 
 -- the columns of the coordinates so far are those of the powers
 abbrev pub invariant-loop-a : goal.invariant-loop-a
-invariant-loop-a g l = (length l.columns ≡ 8) × PowerColumns (g.F.Field.means l.field) l.a l.columns
+invariant-loop-a g l = (length l.powers_of_a-items ≡ l.coordinates) × PowerColumns (g.F.Field.means l.field) l.a l.powers_of_a-items
