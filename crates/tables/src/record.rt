@@ -1,7 +1,7 @@
 //! One record of a direction list, its parts, and the test of its layout.
 ghost use Rattle.std.specs.Prelude.{◌≡◌, ℕ, ◌*◌, ◌<◌, ◌↔◌, length, slice_index, IsTrue, MatchOption};
 ghost use Rattle.base.specs.Faults.{kind_number, layer_number, refusal, stated};
-ghost use Rattle.tables.specs.Record.{Layout, pair};
+ghost use Rattle.tables.specs.Record.{HeadOf, Layout, pair};
 ghost use Rattle.tables.specs.Given.{GivenBy};
 ghost use Rattle.tables.specs.Parts.{TakenApart};
 
@@ -69,20 +69,17 @@ impl<'a> Record<'a> {
     {
         let parts = self.parts()?;
         let numbers = numbers_in(parts.numbers.try_into().ok()?);
-        let Parts {
-            degree,
-            zero,
-            polynomial: bits,
-            ..
-        } = parts;
-        if degree > 8 || zero != 0 || bits >> degree != 1 || bits % 2 != 1 {
+        if !head_is_sound(parts.degree, parts.zero, parts.polynomial) {
             return None;
         }
-        if !are_zero(&numbers[degree as usize..]) {
+        if !are_zero(&numbers[parts.degree as usize..]) {
             return None;
         }
         Some(Given {
-            polynomial: Polynomial { degree, bits },
+            polynomial: Polynomial {
+                degree: parts.degree,
+                bits: parts.polynomial,
+            },
             numbers,
         })
     }
@@ -100,6 +97,13 @@ fn numbers_in(bytes: &[u8; 16]) -> [u16; 8]
     ensures { (k : ℕ) → k < 8 → slice_index result k ≡ pair bytes.now (2 * k) }
 {
     std::array::from_fn(|i| u16::from_le_bytes([bytes[2 * i], bytes[2 * i + 1]]))
+}
+
+// Whether degree, byte 1 and polynomial are those of a record.
+fn head_is_sound(degree: u8, zero: u8, polynomial: u16) -> bool
+    ensures { IsTrue result ↔ HeadOf degree zero polynomial }
+{
+    degree <= 8 && zero == 0 && polynomial >> degree == 1 && polynomial % 2 == 1
 }
 
 // Whether each number is 0.

@@ -1,8 +1,16 @@
 use Rattle.std.proofs.Common.{◌≡◌, length, sym, ◌∙◌, rules}
 use Rattle.std.proofs.lemmas.Bool.{true≢false}
 use Rattle.std.proofs.lemmas.List.{take_rest}
+use Rattle.tables.specs.Record.{HeadOf}
 use Rattle.tables.proofs.Givens.{parted}
 use Rattle.tables.proofs.record.Record.given.Goals as goal
+
+pub returns-then-not-head_is_sound : goal.returns-then-not-head_is_sound
+returns-then-not-head_is_sound c layout =
+    let apart = c.in_ok-parts.ensures in
+    let p = c.in_ok-parts.parts in
+    let head : HeadOf p.degree p.zero p.polynomial = rw (apart.degree_is, apart.zero_is, apart.polynomial_is) layout.1 in
+    true≢false (sym (c.head_is_sound.ensures.1 head) ∙ c.if-not-head_is_sound.true)
 
 pub returns-then-not-are_zero : goal.returns-then-not-are_zero
 returns-then-not-are_zero c layout =
@@ -13,7 +21,7 @@ returns-then-not-are_zero c layout =
     let eight : length c.numbers_in-numbers.result ≡ 8 = search rules in
     let told = parted c.args.self.now.bytes.now p rest c.numbers_in-numbers.result _ c.in_ok-parts.ensures is sixteen eight
     c.numbers_in-numbers.ensures (rw eight at (take_rest c.numbers_in-numbers.result p.degree))
-    (c.if-degree-gt8.false, c.if-zero-ne0.false, c.if-bits-degree-ne1.false, c.if-bits-ne1.false) in
+    (c.head_is_sound.ensures.0 c.if-not-head_is_sound.false) in
     true≢false (sym (c.are_zero.ensures.1 (told.layout.1 layout)) ∙ c.if-not-are_zero.true)
 
 pub returns : goal.returns
@@ -25,7 +33,7 @@ returns c =
     let eight : length c.numbers_in-numbers.result ≡ 8 = search rules in
     let told = parted c.args.self.now.bytes.now p rest c.numbers_in-numbers.result _ c.in_ok-parts.ensures is sixteen eight
     c.numbers_in-numbers.ensures (rw eight at (take_rest c.numbers_in-numbers.result p.degree))
-    (c.if-degree-gt8.false, c.if-zero-ne0.false, c.if-bits-degree-ne1.false, c.if-bits-ne1.false) in
+    (c.head_is_sound.ensures.0 c.if-not-head_is_sound.false) in
     record {
       layout = told.layout.0 (c.are_zero.ensures.0 c.if-not-are_zero.false);
       degree_is = c.in_ok-parts.ensures.degree_is;
