@@ -1,8 +1,8 @@
-use Rattle.std.proofs.Common.{◌≡◌, ℕ, ◌+◌, ◌-◌, ◌*◌, ◌^◌, ◌≤◌, sym, refl, ap, ◌∙◌, subst, mul-le-mul_right, arith, pow-add}
+use Rattle.std.proofs.Common.{◌≡◌, ℕ, ◌+◌, ◌-◌, ◌*◌, ◌^◌, ◌≤◌, sym, ap, ◌∙◌, subst, mul-le-mul_right, arith, pow-add}
 use mathlib.Core.Path.{subst₃}
 use Rattle.base.specs.Nets.{Least, Net}
 use Rattle.checks.specs.Counting.{points_of}
-use Rattle.block_examples.proofs.blocks.least_of_block.Goals as goal
+use Rattle.block_examples.proofs.points.Points.least_of_block.Goals as goal
 
 -- block b is one of the q^(M - m) blocks of q^m positions
 block_within : (q M m b last : ℕ) → m ≤ M → last + 1 ≡ q ^ (M - m) → b ≤ last → (b + 1) * q ^ m ≤ q ^ M
@@ -13,25 +13,18 @@ block_within q M m b last h count few =
 
 pub block_points-requires : goal.block_points-requires
 block_points-requires g c =
-    let table = c.args.table.now in
+    let shape = c.args.self.now.table.shape in
     let m = c.args.m in
-    let low : m ≤ table.digits = omega (arith, c.digits.ensures) in
-    record {
-      agree = (c.if-not-agree.ensures.0 refl).words;
-      within = (
-        low,
-        block_within table.q table.digits m c.args.block c.last_block.result low c.last_block.ensures
-            c.if-block-last_block.false,
-      );
-    }
+    let low : m ≤ shape.digits = omega (arith, c.digits.ensures) in
+    (low, block_within shape.q shape.digits m c.args.block c.last_block.result low c.last_block.ensures c.if-block-last_block.false)
 
 pub returns : goal.returns
 returns g c =
     let m = c.args.m in
-    let table = c.args.table.now in
+    let shape = c.args.self.now.table.shape in
     let xs = c.as_slice.result.now in
     let t = c.in_ok-least_t.field-0 in
-    subst (λ points. Least (λ u. Net table.q table.digits table.coordinates u m points) t)
-    (ap (points_of table.coordinates (table.q ^ m)) c.as_slice.ensures.value ∙ c.in_ok-points.ensures)
+    subst (λ points. Least (λ u. Net shape.q shape.digits shape.coordinates u m points) t)
+    (ap (points_of shape.coordinates (shape.q ^ m)) c.as_slice.ensures.value ∙ c.in_ok-points.ensures)
     (subst₃ (λ q M s. Least (λ u. Net q M s u m (points_of s (q ^ m) xs)) t) c.q.ensures c.digits-2.ensures c.coordinates.ensures
     c.in_ok-least_t.ensures.answer.1.0)
