@@ -27,7 +27,7 @@ pub const EQUAL_COORDINATES: [u8; 18] = [1, 0, 0, 0, 1, 0, 0, 0, 1, 1, 0, 0, 0, 
 /// Eight points of one coordinate over 2^3, one of them twice.
 pub const SIX_TWICE: [u32; 8] = [0, 1, 2, 3, 4, 5, 6, 6];
 
-// Prints the least t of a block of q^m points, for each m; the block is the one that a rule gives for m.
+// Prints the least t of a block of q^m points, for each m: of the block whose number a rule gives.
 fn print_blocks<F: Field + Drop, O: Order + Drop, S: Scrambler + Drop, B: Fn(u8) -> u64>(
     rt: &HostRuntime,
     name: &str,
@@ -37,11 +37,10 @@ fn print_blocks<F: Field + Drop, O: Order + Drop, S: Scrambler + Drop, B: Fn(u8)
 ) -> anyhow::Result<()>
     requires { (m : ℕ) → m ≤ (model points.now.table).digits → B.pre block m }
 {
-    let table = points.table();
-    let q = table.q();
-    let digits = table.digits();
-    let coordinates = table.coordinates();
-    for m in 0..digits + 1 {
+    let q = points.table.q();
+    let digits = points.table.digits();
+    let coordinates = points.table.coordinates();
+    for m in 0..=digits {
         let block = block(m);
         let t = points.least_of_block(rt.alloc(), m, block)?;
         println!(rt; "{name} q {q} M {digits} s {coordinates} m {m} block {block} {way}: t {t}")?;

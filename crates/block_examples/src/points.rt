@@ -25,14 +25,19 @@ pub struct Points<F: Field, O: Order, S: Scrambler> {
     field: F,
     order: O,
     scrambler: S,
-    table: Table,
-    ghost agree: { Agree (parts (F.Field.means field) (O.Order.means order) (S.Scrambler.means scrambler)) (model table) },
+    pub table: Table,
+    ghost agree: { Agree
+        (parts (F.Field.means field) (O.Order.means order) (S.Scrambler.means scrambler))
+        (model table) },
 }
 
 impl<F: Field + Drop, O: Order + Drop, S: Scrambler + Drop> Points<F, O, S> {
     /// The points of a table, by some parts; an error for parts of another q, M or s than the table's.
     pub fn new(field: F, order: O, scrambler: S, table: Table) -> anyhow::Result<Points<F, O, S>>
-        ensures fit { IsOk result ↔ Agree (parts (F.Field.means field) (O.Order.means order) (S.Scrambler.means scrambler)) (model table) }
+        ensures fit { IsOk result
+            ↔ Agree
+                (parts (F.Field.means field) (O.Order.means order) (S.Scrambler.means scrambler))
+                (model table) }
         ensures field { IfOk result (λ points. points.field ≡ field) }
         ensures order { IfOk result (λ points. points.order ≡ order) }
         ensures scrambler { IfOk result (λ points. points.scrambler ≡ scrambler) }
@@ -54,13 +59,6 @@ impl<F: Field + Drop, O: Order + Drop, S: Scrambler + Drop> Points<F, O, S> {
         } else {
             Err(anyhow!("parts that do not belong together"))
         }
-    }
-
-    /// The table.
-    pub fn table(&self) -> &Table
-        ensures { result.now ≡ self.now.table }
-    {
-        &self.table
     }
 
     // A row of a coordinate at an index: the sum over the columns of the table's digit times the index's.
@@ -97,7 +95,9 @@ impl<F: Field + Drop, O: Order + Drop, S: Scrambler + Drop> Points<F, O, S> {
     // The numerator of a coordinate at an index: the number of its scrambled word.
     fn numerator(&self, coordinate: u8, index: u64) -> u32
         requires { coordinate < (model self.now.table).coordinates }
-        ensures { result ≡ numerator (model self.now.table).q ((S.Scrambler.means self.now.scrambler).scramble coordinate (word_of (F.Field.means self.now.field) (model self.now.table) coordinate index)) }
+        ensures { result ≡ numerator (model self.now.table).q
+            ((S.Scrambler.means self.now.scrambler).scramble coordinate
+                (word_of (F.Field.means self.now.field) (model self.now.table) coordinate index)) }
     {
         let mut digits = [0u8; 32];
         let word = &mut digits[..self.table.digits() as usize];
@@ -109,7 +109,8 @@ impl<F: Field + Drop, O: Order + Drop, S: Scrambler + Drop> Points<F, O, S> {
     // Writes the point of a position: the numerator of each coordinate at the order's index.
     fn write_point(&self, position: u64, out: &mut [u32])
         requires { length out.old ≡ (model self.now.table).coordinates }
-        ensures { out.new ≡ point (F.Field.means self.now.field) (O.Order.means self.now.order) (S.Scrambler.means self.now.scrambler) (model self.now.table) position }
+        ensures { out.new ≡ point (F.Field.means self.now.field) (O.Order.means self.now.order)
+            (S.Scrambler.means self.now.scrambler) (model self.now.table) position }
     {
         let index = self.order.index(position);
         for (coordinate, numerator) in out.iter_mut().enumerate() {
@@ -136,7 +137,10 @@ impl<F: Field + Drop, O: Order + Drop, S: Scrambler + Drop> Points<F, O, S> {
     // The points of a block, one after the other.
     fn block_points(&self, heap: Global, m: u8, block: u64) -> Result<Vec<u32>, AllocError>
         requires { BlockWithin (model self.now.table) m block }
-        ensures { IfOk result (λ v. points_of (model self.now.table).coordinates ((model self.now.table).q ^ m) v.items ≡ block_points (F.Field.means self.now.field) (O.Order.means self.now.order) (S.Scrambler.means self.now.scrambler) (model self.now.table) m block) }
+        ensures { IfOk result (λ numerators.
+            points_of (model self.now.table).coordinates ((model self.now.table).q ^ m) numerators.items
+            ≡ block_points (F.Field.means self.now.field) (O.Order.means self.now.order)
+                (S.Scrambler.means self.now.scrambler) (model self.now.table) m block) }
     {
         let size = self.power(m);
         let first = block * size;
@@ -150,10 +154,12 @@ impl<F: Field + Drop, O: Order + Drop, S: Scrambler + Drop> Points<F, O, S> {
         Ok(numerators)
     }
 
-    /// The least t of a block of q^m points, by counting; an error for a block that the table does not have, or for more
-    /// points than the check takes.
+    /// The least t of a block of q^m points, by counting; an error for a block that the table does not have, for more points
+    /// than the check takes, or where memory is short.
     pub fn least_of_block(&self, heap: Global, m: u8, block: u64) -> anyhow::Result<u8>
-        ensures { IfOk result (Least (BlockNet (F.Field.means self.now.field) (O.Order.means self.now.order) (S.Scrambler.means self.now.scrambler) (model self.now.table) m block)) }
+        ensures { IfOk result (Least
+            (BlockNet (F.Field.means self.now.field) (O.Order.means self.now.order)
+                (S.Scrambler.means self.now.scrambler) (model self.now.table) m block)) }
     {
         if m > self.table.digits() || block > self.last_block(m) {
             return Err(anyhow!("a block that the table does not have"));

@@ -1,15 +1,9 @@
-use Rattle.std.proofs.Common.{◌≡◌, ℕ, ◌/◌, ◌%◌, ◌^◌, sym, refl, ap, ◌∙◌, ap₂, pow-suc, div-one, add-one, arith}
-use native.Mathlib.Nat.{div-div-eq-div-mul, pow-zero}
+use Rattle.std.proofs.Common.{◌≡◌, ℕ, ◌/◌, ◌%◌, ◌^◌, sym, ap, ◌∙◌, ap₂, pow-suc, add-one, arith}
+use native.Mathlib.Nat.{div-div-eq-div-mul}
 use Rattle.base.specs.Fields.{sum_over}
 use Rattle.base.specs.Orders.{digit}
 use Rattle.tables.specs.Table.{model}
 use Rattle.block_examples.proofs.points.Points.row.Goals as goal
-
-pub loop-column-init : goal.loop-column-init
-loop-column-init g c = record {
-  added = refl;
-  left = sym (ap (λ n. c.args.index / n) (pow-zero c.args.self.now.table.shape.q) ∙ div-one c.args.index);
-}
 
 pub loop-column-preserved : goal.loop-column-preserved
 loop-column-preserved g c =

@@ -1,19 +1,9 @@
-use Rattle.std.proofs.Common.{ℕ, map, get_or, set, ap, ◌∙◌, arith}
+use Rattle.std.proofs.Common.{ℕ, map, ap, ◌∙◌, arith}
 use Rattle.std.proofs.lemmas.List.FromFn.{fill_by_all}
-use Rattle.std.proofs.lemmas.List.Edits.{fill_by_more}
 use Rattle.std.specs.List.{range_with_len}
 use Rattle.base.specs.Points.{numerator, word}
 use Rattle.tables.specs.Table.{model}
 use Rattle.block_examples.proofs.points.Points.write_point.Goals as goal
-
-pub loop-coordinate-preserved : goal.loop-coordinate-preserved
-loop-coordinate-preserved g c k h =
-    let F = g.F.Field.means c.args.self.now.field in
-    let S = g.S.Scrambler.means c.args.self.now.scrambler in
-    let T = model c.args.self.now.table in
-    let f : ℕ → ℕ = λ j. numerator T.q (S.scramble j (word F T j c.index-index.result)) in
-    ap (λ x. get_or (set c.loop-coordinate.out c.loop-coordinate.coordinate x) k 0) c.numerator.ensures
-    ∙ fill_by_more f c.loop-coordinate.out c.loop-coordinate.coordinate 0 (omega (arith, c.requires)) c.loop-coordinate.invariant k h
 
 pub returns : goal.returns
 returns g c =
