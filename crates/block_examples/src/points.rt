@@ -36,8 +36,8 @@ impl<F: Field + Drop, O: Order + Drop, S: Scrambler + Drop> Points<F, O, S> {
     pub fn new(field: F, order: O, scrambler: S, table: Table) -> anyhow::Result<Points<F, O, S>>
         ensures fit { IsOk result
             ↔ Agree
-                (parts (F.Field.means field) (O.Order.means order) (S.Scrambler.means scrambler))
-                (model table) }
+            (parts (F.Field.means field) (O.Order.means order) (S.Scrambler.means scrambler))
+            (model table) }
         ensures field { IfOk result (λ points. points.field ≡ field) }
         ensures order { IfOk result (λ points. points.order ≡ order) }
         ensures scrambler { IfOk result (λ points. points.scrambler ≡ scrambler) }
@@ -71,6 +71,7 @@ impl<F: Field + Drop, O: Order + Drop, S: Scrambler + Drop> Points<F, O, S> {
         let q = u64::from(self.table.q());
         let mut rest = index;
         let mut sum = 0;
+        // The sum and the rest of the index go on together, which a fold over pairs would only hide.
         for column in 0..self.table.digits() {
             let Some(entry) = self.table.entry(coordinate, row, column) else {
                 unreachable!()
@@ -97,7 +98,7 @@ impl<F: Field + Drop, O: Order + Drop, S: Scrambler + Drop> Points<F, O, S> {
         requires { coordinate < (model self.now.table).coordinates }
         ensures { result ≡ numerator (model self.now.table).q
             ((S.Scrambler.means self.now.scrambler).scramble coordinate
-                (word_of (F.Field.means self.now.field) (model self.now.table) coordinate index)) }
+            (word_of (F.Field.means self.now.field) (model self.now.table) coordinate index)) }
     {
         let mut digits = [0u8; 32];
         let word = &mut digits[..self.table.digits() as usize];
@@ -140,7 +141,7 @@ impl<F: Field + Drop, O: Order + Drop, S: Scrambler + Drop> Points<F, O, S> {
         ensures { IfOk result (λ numerators.
             points_of (model self.now.table).coordinates ((model self.now.table).q ^ m) numerators.items
             ≡ block_points (F.Field.means self.now.field) (O.Order.means self.now.order)
-                (S.Scrambler.means self.now.scrambler) (model self.now.table) m block) }
+            (S.Scrambler.means self.now.scrambler) (model self.now.table) m block) }
     {
         let size = self.power(m);
         let first = block * size;
@@ -159,7 +160,7 @@ impl<F: Field + Drop, O: Order + Drop, S: Scrambler + Drop> Points<F, O, S> {
     pub fn least_of_block(&self, heap: Global, m: u8, block: u64) -> anyhow::Result<u8>
         ensures { IfOk result (Least
             (BlockNet (F.Field.means self.now.field) (O.Order.means self.now.order)
-                (S.Scrambler.means self.now.scrambler) (model self.now.table) m block)) }
+            (S.Scrambler.means self.now.scrambler) (model self.now.table) m block)) }
     {
         if m > self.table.digits() || block > self.last_block(m) {
             return Err(anyhow!("a block that the table does not have"));

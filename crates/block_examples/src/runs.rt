@@ -75,9 +75,7 @@ fn print_jump(rt: &HostRuntime, run: &mut PublishedRun, position: u64) -> anyhow
 fn print_step(rt: &HostRuntime, run: &mut PublishedRun) -> anyhow::Result<()> {
     let mut out = [0u32; COORDINATES as usize];
     match run.step(&mut out) {
-        Ok((position, changed)) => println!(rt;
-            "step: position {position}, {changed} changed"
-        )?,
+        Ok((position, changed)) => println!(rt; "step: position {position}, {changed} changed")?,
         Err(fault) => println!(rt; "step: {fault}")?,
     }
     Ok(())
