@@ -1,4 +1,3 @@
 pub mod CountedFrom
 pub mod PointLists
 pub mod TableWords
-pub mod WordNumbers

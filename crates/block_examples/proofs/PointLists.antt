@@ -1,30 +1,29 @@
--- Points of s numerators each, written one after the other into a list. Assumes nothing.
-use Rattle.std.proofs.Common.{◌≡◌, ℕ, suc, ◌+◌, ◌-◌, ◌*◌, ◌<◌, ◌≤◌, List, length, take, drop, sym, ap, ◌∙◌, mul-le-mul_right, suc-mul, arith}
-use borrow.Rule.Slice.PartMut.{put_mid}
-use Rattle.std.proofs.lemmas.Slice.{between_is, between-put_mid, take-put_mid_below}
+-- Points of s numerators each, one after the other in a list, and one more after them. Assumes nothing.
+use Rattle.std.proofs.Common.{◌≡◌, ℕ, suc, ◌+◌, ◌*◌, ◌<◌, ◌≤◌, List, ◌++◌, length, take, drop, sym, ap, ◌∙◌, mul-le-mul_right, suc-mul, arith, length-append, length-drop}
+use Rattle.std.proofs.Math.Seq.{drop-append_seam}
+use Rattle.std.proofs.lemmas.List.{drop-append-le, take-append-le, take_all}
 
 -- point i of n points ends within them
-pub point_within : (s i n : ℕ) → i < n → i * s + s ≤ n * s
+point_within : (s i n : ℕ) → i < n → i * s + s ≤ n * s
 point_within s i n h = omega (arith, suc-mul i s, mul-le-mul_right {m = suc i} {n = n} s h)
 
 -- point i of a list
 abbrev pub point_at : ℕ → List ℕ → ℕ → List ℕ
 point_at s xs i = take s (drop (i * s) xs)
 
--- a point before the one written is as it was
-pub point_kept : (s i k n : ℕ) (xs ys : List ℕ) → k < i → i * s ≤ length xs → point_at s (put_mid (i * s) n xs ys) k ≡ point_at s xs k
-point_kept s i k n xs ys h within =
-    let end = k * s + s in
-    let size : end - k * s ≡ s = omega arith in
-    ap (λ d. take d (drop (k * s) (put_mid (i * s) n xs ys))) (sym size)
-    ∙ between_is (put_mid (i * s) n xs ys) (k * s) end
-    ∙ ap (drop (k * s)) (take-put_mid_below (i * s) n xs ys end (point_within s k i h) within)
-    ∙ sym (between_is xs (k * s) end)
-    ∙ ap (λ d. take d (drop (k * s) xs)) size
+module _ (s n : ℕ) (xs ys : List ℕ) (before : length xs ≡ n * s) (size : length ys ≡ s) where
+  pub length_more : length (xs ++ ys) ≡ (n + 1) * s
+  length_more = omega (arith, length-append xs ys, suc-mul n s)
 
--- the point written
-pub point_written : (s i n : ℕ) (xs ys : List ℕ) → length ys ≡ s → i * s ≤ length xs → point_at s (put_mid (i * s) n xs ys) i ≡ ys
-point_written s i n xs ys size within =
-    let end = i * s + s in
-    let rest : end - i * s ≡ s = omega arith in
-    ap (λ d. take d (drop (i * s) (put_mid (i * s) n xs ys))) (sym rest) ∙ between-put_mid (i * s) n xs ys end within (size ∙ sym rest)
+  -- a point before is as it was
+  pub point_kept : (k : ℕ) → k < n → point_at s (xs ++ ys) k ≡ point_at s xs k
+  point_kept k h =
+      let inside = point_within s k n h in
+      ap (take s) (drop-append-le (k * s) xs ys (omega (arith, inside, before)))
+      ∙ take-append-le s (drop (k * s) xs) ys (omega (arith, inside, before, length-drop (k * s) xs))
+
+  -- the point after them
+  pub point_added : point_at s (xs ++ ys) n ≡ ys
+  point_added =
+      ap (λ i. take s (drop i (xs ++ ys))) (sym before)
+      ∙ ap (take s) (drop-append_seam xs ys) ∙ take_all s ys (omega (arith, size))

@@ -2,7 +2,7 @@
 #![tactic(auto)]
 
 mod blocks;
-mod formula;
+mod points;
 mod runs;
 
 use std::io::Read;
