@@ -128,7 +128,7 @@ impl<F: Field + Drop, O: Order + Drop, S: Scrambler + Drop> Points<F, O, S> {
     }
 
     /// The number of the last block of q^m points.
-    pub fn last_block(&self, m: u8) -> u64
+    pub(crate) fn last_block(&self, m: u8) -> u64
         requires { m ≤ (model self.now.table).digits }
         ensures { result + 1 ≡ (model self.now.table).q ^ ((model self.now.table).digits - m) }
     {

@@ -6,6 +6,7 @@ use fields::field::Field;
 /// The present digits of a coordinate: its rows at the present index, before scrambling, row 1 first.
 #[derive(Clone, Copy)]
 pub(crate) struct Coordinate {
+    // As many as a table can have rows, since no run asks for memory; those past the last row have no say.
     pub(crate) digits: [u8; 32],
 }
 

@@ -1,7 +1,7 @@
 //! An open run: its table, where it stands, and its calls, with what points are made with at hand.
 ghost use Rattle.std.specs.Prelude.{◌≡◌, ◌↔◌, length, IsTrue, OnErr};
 ghost use Rattle.base.specs.Tests.{Gives};
-ghost use Rattle.run.specs.Runs.{Agree, Answers, call_tests, parts};
+ghost use Rattle.run.specs.Runs.{Agree, Answers, call_tests};
 ghost use Rattle.run.specs.declared.replay.Call.TheVariants.{Step, Jump, At, Verdict};
 
 use crate::advance::{advance_one, present};
@@ -27,15 +27,17 @@ pub(crate) struct Setup<F, O, S> {
 pub(crate) struct Open {
     table: Table,
     position: u64,
+    // A plain array, since no run asks for memory: there are at most eight coordinates.
     coordinates: [Coordinate; 8],
 }
 
 impl<F: Field, O: Order, S: Scrambler> Setup<F, O, S> {
+    ghost use Rattle.run.specs.Setups.{parts_of};
     ghost use Rattle.tables.specs.Table.{model};
 
     /// Whether the parts have the q, M and s of a table.
     pub(crate) fn agrees(&self, table: &Table) -> bool
-        ensures { IsTrue result ↔ Agree (parts (F.Field.means self.now.field) (O.Order.means self.now.order) (S.Scrambler.means self.now.scrambler)) (model table.now) }
+        ensures { IsTrue result ↔ Agree (parts_of F.Field O.Order S.Scrambler self.now) (model table.now) }
     {
         self.field.q() == table.q()
             && self.order.q() == table.q()
@@ -47,6 +49,7 @@ impl<F: Field, O: Order, S: Scrambler> Setup<F, O, S> {
 }
 
 impl Open {
+    ghost use Rattle.run.specs.Setups.{parts_of};
     ghost use Rattle.tables.specs.Table.{model};
     ghost use Rattle.run.specs.States.{Shows, at_answer, jump_answer, step_answer, verdict_answer, view_of};
 
@@ -55,10 +58,10 @@ impl Open {
         setup: &Setup<F, O, S>,
         table: &Table,
     ) -> Open
-        requires { Agree (parts (F.Field.means setup.now.field) (O.Order.means setup.now.order) (S.Scrambler.means setup.now.scrambler)) (model table.now) }
+        requires { Agree (parts_of F.Field O.Order S.Scrambler setup.now) (model table.now) }
         ensures table { result.table ≡ table.now }
         ensures position { result.position ≡ 0 }
-        ensures shows { Shows (parts (F.Field.means setup.now.field) (O.Order.means setup.now.order) (S.Scrambler.means setup.now.scrambler)) result }
+        ensures shows { Shows (parts_of F.Field O.Order S.Scrambler setup.now) result }
     {
         let coordinates = present(&setup.field, table, setup.order.index(0));
         Open {
@@ -74,10 +77,10 @@ impl Open {
         setup: &Setup<F, O, S>,
         out: &mut [u32],
     ) -> Result<(u64, u8), Fault>
-        requires { Shows (parts (F.Field.means setup.now.field) (O.Order.means setup.now.order) (S.Scrambler.means setup.now.scrambler)) self.old }
+        requires { Shows (parts_of F.Field O.Order S.Scrambler setup.now) self.old }
         ensures tests { Gives (call_tests (view_of self.old) (Step (length out.old))) result (λ x. Unit {0}) }
-        ensures answer { Answers (parts (F.Field.means setup.now.field) (O.Order.means setup.now.order) (S.Scrambler.means setup.now.scrambler)) (view_of self.old) (Step (length out.old)) (step_answer result out.new) (view_of self.new) }
-        ensures shows { Shows (parts (F.Field.means setup.now.field) (O.Order.means setup.now.order) (S.Scrambler.means setup.now.scrambler)) self.new }
+        ensures answer { Answers (parts_of F.Field O.Order S.Scrambler setup.now) (view_of self.old) (Step (length out.old)) (step_answer result out.new) (view_of self.new) }
+        ensures shows { Shows (parts_of F.Field O.Order S.Scrambler setup.now) self.new }
         ensures refused { OnErr result (self.new ≡ self.old) }
         ensures unwritten { OnErr result (out.new ≡ out.old) }
     {
@@ -100,10 +103,10 @@ impl Open {
         setup: &Setup<F, O, S>,
         position: u64,
     ) -> Result<(), Fault>
-        requires { Shows (parts (F.Field.means setup.now.field) (O.Order.means setup.now.order) (S.Scrambler.means setup.now.scrambler)) self.old }
+        requires { Shows (parts_of F.Field O.Order S.Scrambler setup.now) self.old }
         ensures tests { Gives (call_tests (view_of self.old) (Jump position)) result (λ x. Unit {0}) }
-        ensures answer { Answers (parts (F.Field.means setup.now.field) (O.Order.means setup.now.order) (S.Scrambler.means setup.now.scrambler)) (view_of self.old) (Jump position) (jump_answer result) (view_of self.new) }
-        ensures shows { Shows (parts (F.Field.means setup.now.field) (O.Order.means setup.now.order) (S.Scrambler.means setup.now.scrambler)) self.new }
+        ensures answer { Answers (parts_of F.Field O.Order S.Scrambler setup.now) (view_of self.old) (Jump position) (jump_answer result) (view_of self.new) }
+        ensures shows { Shows (parts_of F.Field O.Order S.Scrambler setup.now) self.new }
         ensures refused { OnErr result (self.new ≡ self.old) }
     {
         if position >= self.table.positions() {
@@ -121,9 +124,9 @@ impl Open {
         position: u64,
         out: &mut [u32],
     ) -> Result<(), Fault>
-        requires { Shows (parts (F.Field.means setup.now.field) (O.Order.means setup.now.order) (S.Scrambler.means setup.now.scrambler)) self.now }
+        requires { Shows (parts_of F.Field O.Order S.Scrambler setup.now) self.now }
         ensures tests { Gives (call_tests (view_of self.now) (At position (length out.old))) result (λ x. Unit {0}) }
-        ensures answer { Answers (parts (F.Field.means setup.now.field) (O.Order.means setup.now.order) (S.Scrambler.means setup.now.scrambler)) (view_of self.now) (At position (length out.old)) (at_answer result out.new) (view_of self.now) }
+        ensures answer { Answers (parts_of F.Field O.Order S.Scrambler setup.now) (view_of self.now) (At position (length out.old)) (at_answer result out.new) (view_of self.now) }
         ensures refused { OnErr result (out.new ≡ out.old) }
     {
         if out.len() != self.table.coordinates() as usize {
@@ -143,9 +146,9 @@ impl Open {
         setup: &Setup<F, O, S>,
         m: u8,
     ) -> Result<u8, Fault>
-        requires { Shows (parts (F.Field.means setup.now.field) (O.Order.means setup.now.order) (S.Scrambler.means setup.now.scrambler)) self.now }
+        requires { Shows (parts_of F.Field O.Order S.Scrambler setup.now) self.now }
         ensures tests { Gives (call_tests (view_of self.now) (Verdict m)) result (λ x. Unit {0}) }
-        ensures answer { Answers (parts (F.Field.means setup.now.field) (O.Order.means setup.now.order) (S.Scrambler.means setup.now.scrambler)) (view_of self.now) (Verdict m) (verdict_answer result) (view_of self.now) }
+        ensures answer { Answers (parts_of F.Field O.Order S.Scrambler setup.now) (view_of self.now) (Verdict m) (verdict_answer result) (view_of self.now) }
     {
         first_passing(&setup.field, &self.table, m)
     }

@@ -5,7 +5,8 @@ ghost use Rattle.base.specs.Tests.{Gives};
 ghost use Rattle.tables.specs.Sobol.{sobol_table};
 ghost use Rattle.tables.specs.Table.{model};
 ghost use Rattle.run.specs.Law.{History};
-ghost use Rattle.run.specs.Runs.{Answers, parts};
+ghost use Rattle.run.specs.Runs.{Answers};
+ghost use Rattle.run.specs.Setups.{parts_of};
 ghost use Rattle.run.specs.States.{view};
 ghost use Rattle.run.specs.declared.replay.Call.TheVariants.{Step, At};
 
@@ -83,7 +84,7 @@ impl<F: Field + Drop, O: Order + Drop, S: Scrambler + Drop> Run<F, O, S> {
 
     // A step into a buffer, and what it answers.
     fn step_reply(&mut self, buffer: &mut [u32]) -> Reply
-        ensures answer { Answers (parts (F.Field.means self.old.setup.field) (O.Order.means self.old.setup.order) (S.Scrambler.means self.old.setup.scrambler)) (view self.old.state) (Step (length buffer.old)) (answer_of result) (view self.new.state) }
+        ensures answer { Answers (parts_of F.Field O.Order S.Scrambler self.old.setup) (view self.old.state) (Step (length buffer.old)) (answer_of result) (view self.new.state) }
         ensures same { self.new.setup ≡ self.old.setup }
     {
         let (position, changed) = self.step(buffer)?;
@@ -96,7 +97,7 @@ impl<F: Field + Drop, O: Order + Drop, S: Scrambler + Drop> Run<F, O, S> {
 
     // The point of a position in a buffer, and what it answers.
     fn at_reply(&self, position: u64, buffer: &mut [u32]) -> Reply
-        ensures { Answers (parts (F.Field.means self.now.setup.field) (O.Order.means self.now.setup.order) (S.Scrambler.means self.now.setup.scrambler)) (view self.now.state) (At position (length buffer.old)) (answer_of result) (view self.now.state) }
+        ensures { Answers (parts_of F.Field O.Order S.Scrambler self.now.setup) (view self.now.state) (At position (length buffer.old)) (answer_of result) (view self.now.state) }
     {
         self.at(position, buffer)?;
         Ok(Outcome::Pointed {
@@ -106,7 +107,7 @@ impl<F: Field + Drop, O: Order + Drop, S: Scrambler + Drop> Run<F, O, S> {
 
     // Makes a call.
     fn make(&mut self, call: Call) -> Reply
-        ensures answer { Answers (parts (F.Field.means self.old.setup.field) (O.Order.means self.old.setup.order) (S.Scrambler.means self.old.setup.scrambler)) (view self.old.state) call (answer_of result) (view self.new.state) }
+        ensures answer { Answers (parts_of F.Field O.Order S.Scrambler self.old.setup) (view self.old.state) call (answer_of result) (view self.new.state) }
         ensures same { self.new.setup ≡ self.old.setup }
     {
         let mut buffer = [0u32; 256];
@@ -126,7 +127,7 @@ impl<F: Field + Drop, O: Order + Drop, S: Scrambler + Drop> Run<F, O, S> {
     // Makes the calls, and writes what each answers.
     fn make_all(&mut self, calls: &[Call], log: &mut [Reply])
         requires { length log.old ≡ length calls.now }
-        ensures history { History (parts (F.Field.means self.old.setup.field) (O.Order.means self.old.setup.order) (S.Scrambler.means self.old.setup.scrambler)) (view self.old.state) (log_of calls.now log.new) (view self.new.state) }
+        ensures history { History (parts_of F.Field O.Order S.Scrambler self.old.setup) (view self.old.state) (log_of calls.now log.new) (view self.new.state) }
         ensures same { self.new.setup ≡ self.old.setup }
     {
         // The log is written by index: what a `zip` over `iter_mut` leaves in it is not known to a proof.
@@ -138,7 +139,7 @@ impl<F: Field + Drop, O: Order + Drop, S: Scrambler + Drop> Run<F, O, S> {
     /// Opens a table and makes the calls of a list, in order; the log holds what each answered. The law over every list of calls holds
     /// of this log.
     pub fn replay(&mut self, table: &Table, calls: &[Call], log: &mut [Reply]) -> Result<(), Fault>
-        ensures answer { Gives (replay_tests (parts (F.Field.means self.old.setup.field) (O.Order.means self.old.setup.order) (S.Scrambler.means self.old.setup.scrambler)) (model table.now) (length calls.now) (length log.old)) result (λ _. Replayed (parts (F.Field.means self.old.setup.field) (O.Order.means self.old.setup.order) (S.Scrambler.means self.old.setup.scrambler)) (model table.now) (log_of calls.now log.new) self.new.state) }
+        ensures answer { Gives (replay_tests (parts_of F.Field O.Order S.Scrambler self.old.setup) (model table.now) (length calls.now) (length log.old)) result (λ _. Replayed (parts_of F.Field O.Order S.Scrambler self.old.setup) (model table.now) (log_of calls.now log.new) self.new.state) }
         ensures same { self.new.setup ≡ self.old.setup }
         ensures refused { OnErr result (self.new ≡ self.old) }
         ensures unwritten { OnErr result (log.new ≡ log.old) }
@@ -160,7 +161,7 @@ impl<F: Field + Drop, O: Order + Drop, S: Scrambler + Drop> Run<F, O, S> {
         calls: &[Call],
         log: &mut [Reply],
     ) -> Result<(), Fault>
-        ensures answer { Gives (replay_list_tests (parts (F.Field.means self.old.setup.field) (O.Order.means self.old.setup.order) (S.Scrambler.means self.old.setup.scrambler)) list.now digits (length calls.now) (length log.old)) result (λ _. (T : TableModel) × SameTable T (sobol_table list.now digits) × Replayed (parts (F.Field.means self.old.setup.field) (O.Order.means self.old.setup.order) (S.Scrambler.means self.old.setup.scrambler)) T (log_of calls.now log.new) self.new.state) }
+        ensures answer { Gives (replay_list_tests (parts_of F.Field O.Order S.Scrambler self.old.setup) list.now digits (length calls.now) (length log.old)) result (λ _. (T : TableModel) × SameTable T (sobol_table list.now digits) × Replayed (parts_of F.Field O.Order S.Scrambler self.old.setup) T (log_of calls.now log.new) self.new.state) }
         ensures same { self.new.setup ≡ self.old.setup }
         ensures refused { OnErr result (self.new ≡ self.old) }
         ensures unwritten { OnErr result (log.new ≡ log.old) }

@@ -4,7 +4,8 @@ ghost use Rattle.base.specs.Tables.{SameTable, TableModel};
 ghost use Rattle.base.specs.Tests.{Gives};
 ghost use Rattle.tables.specs.Sobol.{sobol_table, sobol_tests};
 ghost use Rattle.tables.specs.Table.{model};
-ghost use Rattle.run.specs.Runs.{Answers, call_tests, empty, open_tests, parts};
+ghost use Rattle.run.specs.Runs.{Answers, call_tests, empty, open_tests};
+ghost use Rattle.run.specs.Setups.{parts_of};
 ghost use Rattle.run.specs.States.{Consistent, Opens, at_answer, jump_answer, step_answer, verdict_answer, view};
 ghost use Rattle.run.specs.declared.replay.Call.TheVariants.{Step, Jump, At, Verdict};
 
@@ -21,7 +22,7 @@ use tables::table::Table;
 pub struct Run<F: Field, O: Order, S: Scrambler> {
     setup: Setup<F, O, S>,
     state: Option<Open>,
-    ghost consistent: { Consistent (parts (F.Field.means setup.field) (O.Order.means setup.order) (S.Scrambler.means setup.scrambler)) state },
+    ghost consistent: { Consistent (parts_of F.Field O.Order S.Scrambler setup) state },
 }
 
 impl<F: Field + Drop, O: Order + Drop, S: Scrambler + Drop> Run<F, O, S> {
@@ -42,7 +43,7 @@ impl<F: Field + Drop, O: Order + Drop, S: Scrambler + Drop> Run<F, O, S> {
 
     /// Opens a copy of a table, at position 0. The law over every list of calls holds from there.
     pub fn open(&mut self, table: &Table) -> Result<(), Fault>
-        ensures answer { Gives (open_tests (parts (F.Field.means self.old.setup.field) (O.Order.means self.old.setup.order) (S.Scrambler.means self.old.setup.scrambler)) (model table.now)) result (λ _. Opens (parts (F.Field.means self.old.setup.field) (O.Order.means self.old.setup.order) (S.Scrambler.means self.old.setup.scrambler)) (model table.now) self.new.state) }
+        ensures answer { Gives (open_tests (parts_of F.Field O.Order S.Scrambler self.old.setup) (model table.now)) result (λ _. Opens (parts_of F.Field O.Order S.Scrambler self.old.setup) (model table.now) self.new.state) }
         ensures same { self.new.setup ≡ self.old.setup }
         ensures refused { OnErr result (self.new ≡ self.old) }
     {
@@ -55,7 +56,7 @@ impl<F: Field + Drop, O: Order + Drop, S: Scrambler + Drop> Run<F, O, S> {
 
     /// Opens the Sobol' table of a direction list, at position 0. The law over every list of calls holds from there.
     pub fn start(&mut self, list: &[u8], digits: u8) -> Result<(), Fault>
-        ensures answer { Gives (sobol_tests list.now digits ++ open_tests (parts (F.Field.means self.old.setup.field) (O.Order.means self.old.setup.order) (S.Scrambler.means self.old.setup.scrambler)) (sobol_table list.now digits)) result (λ _. (T : TableModel) × SameTable T (sobol_table list.now digits) × Opens (parts (F.Field.means self.old.setup.field) (O.Order.means self.old.setup.order) (S.Scrambler.means self.old.setup.scrambler)) T self.new.state) }
+        ensures answer { Gives (sobol_tests list.now digits ++ open_tests (parts_of F.Field O.Order S.Scrambler self.old.setup) (sobol_table list.now digits)) result (λ _. (T : TableModel) × SameTable T (sobol_table list.now digits) × Opens (parts_of F.Field O.Order S.Scrambler self.old.setup) T self.new.state) }
         ensures same { self.new.setup ≡ self.old.setup }
         ensures refused { OnErr result (self.new ≡ self.old) }
     {
@@ -67,7 +68,7 @@ impl<F: Field + Drop, O: Order + Drop, S: Scrambler + Drop> Run<F, O, S> {
     /// that change to the next one, 0 at the last.
     pub fn step(&mut self, out: &mut [u32]) -> Result<(u64, u8), Fault>
         ensures tests { Gives (call_tests (view self.old.state) (Step (length out.old))) result (λ x. Unit {0}) }
-        ensures answer { Answers (parts (F.Field.means self.old.setup.field) (O.Order.means self.old.setup.order) (S.Scrambler.means self.old.setup.scrambler)) (view self.old.state) (Step (length out.old)) (step_answer result out.new) (view self.new.state) }
+        ensures answer { Answers (parts_of F.Field O.Order S.Scrambler self.old.setup) (view self.old.state) (Step (length out.old)) (step_answer result out.new) (view self.new.state) }
         ensures same { self.new.setup ≡ self.old.setup }
         ensures refused { OnErr result (self.new ≡ self.old) }
         ensures unwritten { OnErr result (out.new ≡ out.old) }
@@ -81,7 +82,7 @@ impl<F: Field + Drop, O: Order + Drop, S: Scrambler + Drop> Run<F, O, S> {
     /// Sets the position.
     pub fn jump(&mut self, position: u64) -> Result<(), Fault>
         ensures tests { Gives (call_tests (view self.old.state) (Jump position)) result (λ x. Unit {0}) }
-        ensures answer { Answers (parts (F.Field.means self.old.setup.field) (O.Order.means self.old.setup.order) (S.Scrambler.means self.old.setup.scrambler)) (view self.old.state) (Jump position) (jump_answer result) (view self.new.state) }
+        ensures answer { Answers (parts_of F.Field O.Order S.Scrambler self.old.setup) (view self.old.state) (Jump position) (jump_answer result) (view self.new.state) }
         ensures same { self.new.setup ≡ self.old.setup }
         ensures refused { OnErr result (self.new ≡ self.old) }
     {
@@ -94,7 +95,7 @@ impl<F: Field + Drop, O: Order + Drop, S: Scrambler + Drop> Run<F, O, S> {
     /// Writes the point of a position, and moves nothing.
     pub fn at(&self, position: u64, out: &mut [u32]) -> Result<(), Fault>
         ensures tests { Gives (call_tests (view self.now.state) (At position (length out.old))) result (λ x. Unit {0}) }
-        ensures answer { Answers (parts (F.Field.means self.now.setup.field) (O.Order.means self.now.setup.order) (S.Scrambler.means self.now.setup.scrambler)) (view self.now.state) (At position (length out.old)) (at_answer result out.new) (view self.now.state) }
+        ensures answer { Answers (parts_of F.Field O.Order S.Scrambler self.now.setup) (view self.now.state) (At position (length out.old)) (at_answer result out.new) (view self.now.state) }
         ensures refused { OnErr result (out.new ≡ out.old) }
     {
         let Some(state) = &self.state else {
@@ -106,7 +107,7 @@ impl<F: Field + Drop, O: Order + Drop, S: Scrambler + Drop> Run<F, O, S> {
     /// The least t of every block of q^m points, from the table and the field alone. It moves nothing.
     pub fn verdict(&self, m: u8) -> Result<u8, Fault>
         ensures tests { Gives (call_tests (view self.now.state) (Verdict m)) result (λ x. Unit {0}) }
-        ensures answer { Answers (parts (F.Field.means self.now.setup.field) (O.Order.means self.now.setup.order) (S.Scrambler.means self.now.setup.scrambler)) (view self.now.state) (Verdict m) (verdict_answer result) (view self.now.state) }
+        ensures answer { Answers (parts_of F.Field O.Order S.Scrambler self.now.setup) (view self.now.state) (Verdict m) (verdict_answer result) (view self.now.state) }
     {
         let Some(state) = &self.state else {
             return Err(Fault::of(Kind::EmptyRun, Layer::Run));

@@ -65,6 +65,7 @@ impl Scrambler for ShiftScrambler {
             return;
         }
         let first = usize::from(coordinate) * usize::from(self.shape.digits);
+        // The key is read by place: what a `zip` over `iter_mut` leaves in the word is not known to a proof.
         for (place, digit) in word.iter_mut().enumerate() {
             *digit = (*digit + self.key[first + place]) % self.shape.q;
         }

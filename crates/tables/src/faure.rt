@@ -55,6 +55,7 @@ fn all_columns<F: Field>(field: &F, coordinates: u8) -> [[[u8; 32]; 32]; 8]
     requires { (coordinates ≤ 8) × (coordinates ≤ (F.Field.means field.now).q) }
     ensures { PowerColumns (F.Field.means field.now) coordinates result }
 {
+    // No table asks for memory: there are at most eight coordinates of 32 columns.
     let mut columns = [[[0u8; 32]; 32]; 8];
     for (a, powers_of_a) in columns[..coordinates as usize].iter_mut().enumerate() {
         *powers_of_a = powers(field, a as u8);

@@ -3,16 +3,6 @@ use Rattle.std.proofs.lemmas.List.{length-set}
 use Rattle.tables.proofs.Powers.{column_of_one, columns_more, next_column}
 use Rattle.tables.proofs.faure.powers.Goals as goal
 
-pub loop-column-init : goal.loop-column-init
-loop-column-init g c =
-    let F = g.F.Field.means c.args.field.now in
-    record {
-      size = search rules;
-      done = λ i low. absurd (omega arith);
-      next = column_of_one F (g.met.F.Field.keeps c.args.field.now) c.args.a c.requires c.one-power.result c.one-power.ensures.size
-          c.one-power.ensures.coefficients;
-    }
-
 pub loop-column-preserved : goal.loop-column-preserved
 loop-column-preserved g c =
     let F = g.F.Field.means c.args.field.now in
