@@ -21,27 +21,32 @@ use tables::table::Table;
 ///
 /// A point is computed as the formula is written: each row by itself, with nothing kept from one point to the next.
 #[derive(Drop)]
-pub struct Points<F: Field, O: Order, S: Scrambler> {
-    field: F,
-    order: O,
-    scrambler: S,
-    pub table: Table,
+pub struct Points<'a, F: Field, O: Order, S: Scrambler> {
+    field: &'a F,
+    order: &'a O,
+    scrambler: &'a S,
+    pub table: &'a Table,
     ghost agree: { Agree
-        (parts (F.Field.means field) (O.Order.means order) (S.Scrambler.means scrambler))
-        (model table) },
+        (parts (F.Field.means field.now) (O.Order.means order.now) (S.Scrambler.means scrambler.now))
+        (model table.now) },
 }
 
-impl<F: Field + Drop, O: Order + Drop, S: Scrambler + Drop> Points<F, O, S> {
+impl<'a, F: Field, O: Order, S: Scrambler> Points<'a, F, O, S> {
     /// The points of a table, by some parts; an error for parts of another q, M or s than the table's.
-    pub fn new(field: F, order: O, scrambler: S, table: Table) -> anyhow::Result<Points<F, O, S>>
+    pub fn new(
+        field: &'a F,
+        order: &'a O,
+        scrambler: &'a S,
+        table: &'a Table,
+    ) -> anyhow::Result<Points<'a, F, O, S>>
         ensures fit { IsOk result
             ↔ Agree
-            (parts (F.Field.means field) (O.Order.means order) (S.Scrambler.means scrambler))
-            (model table) }
-        ensures field { IfOk result (λ points. points.field ≡ field) }
-        ensures order { IfOk result (λ points. points.order ≡ order) }
-        ensures scrambler { IfOk result (λ points. points.scrambler ≡ scrambler) }
-        ensures table { IfOk result (λ points. points.table ≡ table) }
+            (parts (F.Field.means field.now) (O.Order.means order.now) (S.Scrambler.means scrambler.now))
+            (model table.now) }
+        ensures field { IfOk result (λ points. points.field.now ≡ field.now) }
+        ensures order { IfOk result (λ points. points.order.now ≡ order.now) }
+        ensures scrambler { IfOk result (λ points. points.scrambler.now ≡ scrambler.now) }
+        ensures table { IfOk result (λ points. points.table.now ≡ table.now) }
     {
         if field.q() == table.q()
             && order.q() == table.q()
@@ -63,10 +68,10 @@ impl<F: Field + Drop, O: Order + Drop, S: Scrambler + Drop> Points<F, O, S> {
 
     // A row of a coordinate at an index: the sum over the columns of the table's digit times the index's.
     fn row(&self, coordinate: u8, row: u8, index: u64) -> u8
-        requires coordinate { coordinate < (model self.now.table).coordinates }
+        requires coordinate { coordinate < (model self.now.table.now).coordinates }
         requires least { 1 ≤ row }
-        requires most { row ≤ (model self.now.table).digits }
-        ensures { result ≡ row_of (F.Field.means self.now.field) (model self.now.table) coordinate index row }
+        requires most { row ≤ (model self.now.table.now).digits }
+        ensures { result ≡ row_of (F.Field.means self.now.field.now) (model self.now.table.now) coordinate index row }
     {
         let q = u64::from(self.table.q());
         let mut rest = index;
@@ -84,9 +89,9 @@ impl<F: Field + Drop, O: Order + Drop, S: Scrambler + Drop> Points<F, O, S> {
 
     // Writes the word of a coordinate at an index: its rows, the first first.
     fn write_word(&self, coordinate: u8, index: u64, word: &mut [u8])
-        requires coordinate { coordinate < (model self.now.table).coordinates }
-        requires size { length word.old ≡ (model self.now.table).digits }
-        ensures { word.new ≡ word_of (F.Field.means self.now.field) (model self.now.table) coordinate index }
+        requires coordinate { coordinate < (model self.now.table.now).coordinates }
+        requires size { length word.old ≡ (model self.now.table.now).digits }
+        ensures { word.new ≡ word_of (F.Field.means self.now.field.now) (model self.now.table.now) coordinate index }
     {
         for (row, digit) in word.iter_mut().enumerate() {
             *digit = self.row(coordinate, row as u8 + 1, index);
@@ -95,10 +100,10 @@ impl<F: Field + Drop, O: Order + Drop, S: Scrambler + Drop> Points<F, O, S> {
 
     // The numerator of a coordinate at an index: the number of its scrambled word.
     fn numerator(&self, coordinate: u8, index: u64) -> u32
-        requires { coordinate < (model self.now.table).coordinates }
-        ensures { result ≡ numerator (model self.now.table).q
-            ((S.Scrambler.means self.now.scrambler).scramble coordinate
-            (word_of (F.Field.means self.now.field) (model self.now.table) coordinate index)) }
+        requires { coordinate < (model self.now.table.now).coordinates }
+        ensures { result ≡ numerator (model self.now.table.now).q
+            ((S.Scrambler.means self.now.scrambler.now).scramble coordinate
+            (word_of (F.Field.means self.now.field.now) (model self.now.table.now) coordinate index)) }
     {
         let mut digits = [0u8; 32];
         let word = &mut digits[..self.table.digits() as usize];
@@ -109,9 +114,9 @@ impl<F: Field + Drop, O: Order + Drop, S: Scrambler + Drop> Points<F, O, S> {
 
     // Writes the point of a position: the numerator of each coordinate at the order's index.
     fn write_point(&self, position: u64, out: &mut [u32])
-        requires { length out.old ≡ (model self.now.table).coordinates }
-        ensures { out.new ≡ point (F.Field.means self.now.field) (O.Order.means self.now.order)
-            (S.Scrambler.means self.now.scrambler) (model self.now.table) position }
+        requires { length out.old ≡ (model self.now.table.now).coordinates }
+        ensures { out.new ≡ point (F.Field.means self.now.field.now) (O.Order.means self.now.order.now)
+            (S.Scrambler.means self.now.scrambler.now) (model self.now.table.now) position }
     {
         let index = self.order.index(position);
         for (coordinate, numerator) in out.iter_mut().enumerate() {
@@ -121,27 +126,27 @@ impl<F: Field + Drop, O: Order + Drop, S: Scrambler + Drop> Points<F, O, S> {
 
     // A power of the table's q, at most that to its number of digits.
     fn power(&self, exponent: u8) -> u64
-        requires { exponent ≤ (model self.now.table).digits }
-        ensures { result ≡ (model self.now.table).q ^ exponent }
+        requires { exponent ≤ (model self.now.table.now).digits }
+        ensures { result ≡ (model self.now.table.now).q ^ exponent }
     {
         u64::from(self.table.q()).pow(u32::from(exponent))
     }
 
     /// The number of the last block of q^m points.
     pub(crate) fn last_block(&self, m: u8) -> u64
-        requires { m ≤ (model self.now.table).digits }
-        ensures { result + 1 ≡ (model self.now.table).q ^ ((model self.now.table).digits - m) }
+        requires { m ≤ (model self.now.table.now).digits }
+        ensures { result + 1 ≡ (model self.now.table.now).q ^ ((model self.now.table.now).digits - m) }
     {
         self.power(self.table.digits() - m) - 1
     }
 
     // The points of a block, one after the other.
     fn block_points(&self, heap: Global, m: u8, block: u64) -> Result<Vec<u32>, AllocError>
-        requires { BlockWithin (model self.now.table) m block }
+        requires { BlockWithin (model self.now.table.now) m block }
         ensures { IfOk result (λ numerators.
-            points_of (model self.now.table).coordinates ((model self.now.table).q ^ m) numerators.items
-            ≡ block_points (F.Field.means self.now.field) (O.Order.means self.now.order)
-            (S.Scrambler.means self.now.scrambler) (model self.now.table) m block) }
+            points_of (model self.now.table.now).coordinates ((model self.now.table.now).q ^ m) numerators.items
+            ≡ block_points (F.Field.means self.now.field.now) (O.Order.means self.now.order.now)
+            (S.Scrambler.means self.now.scrambler.now) (model self.now.table.now) m block) }
     {
         let size = self.power(m);
         let first = block * size;
@@ -159,8 +164,8 @@ impl<F: Field + Drop, O: Order + Drop, S: Scrambler + Drop> Points<F, O, S> {
     /// than the check takes, or where memory is short.
     pub fn least_of_block(&self, heap: Global, m: u8, block: u64) -> anyhow::Result<u8>
         ensures { IfOk result (Least
-            (BlockNet (F.Field.means self.now.field) (O.Order.means self.now.order)
-            (S.Scrambler.means self.now.scrambler) (model self.now.table) m block)) }
+            (BlockNet (F.Field.means self.now.field.now) (O.Order.means self.now.order.now)
+            (S.Scrambler.means self.now.scrambler.now) (model self.now.table.now) m block)) }
     {
         if m > self.table.digits() || block > self.last_block(m) {
             return Err(anyhow!("a block that the table does not have"));

@@ -11,9 +11,9 @@ use Rattle.block_examples.proofs.points.Points.block_points.Goals as goal
 pub loop-position-preserved : goal.loop-position-preserved
 loop-position-preserved g c =
     let points = c.args.self.now in
-    let T = model points.table in
+    let T = model points.table.now in
     let s = T.coordinates in
-    let f = point (g.F.Field.means points.field) (g.O.Order.means points.order) (g.S.Scrambler.means points.scrambler) T in
+    let f = point (g.F.Field.means points.field.now) (g.O.Order.means points.order.now) (g.S.Scrambler.means points.scrambler.now) T in
     let first = c.args.block * c.power-size.result in
     let n = c.loop-position.position - first in
     let before = c.loop-position.invariant in
@@ -36,9 +36,9 @@ loop-position-preserved g c =
 pub returns : goal.returns
 returns g c =
     let points = c.args.self.now in
-    let T = model points.table in
+    let T = model points.table.now in
     let s = T.coordinates in
-    let f = point (g.F.Field.means points.field) (g.O.Order.means points.order) (g.S.Scrambler.means points.scrambler) T in
+    let f = point (g.F.Field.means points.field.now) (g.O.Order.means points.order.now) (g.S.Scrambler.means points.scrambler.now) T in
     let xs = c.loop-position.numerators.items in
     let size = c.power-size.result in
     let all : c.loop-position.position - c.args.block * size ≡ size = omega arith in

@@ -4,13 +4,13 @@ use Rattle.block_examples.proofs.points.Points.last_block.Goals as goal
 
 pub overflow_sub-result : goal.overflow_sub-result
 overflow_sub-result g c =
-    let shape = c.args.self.now.table.shape in
+    let shape = c.args.self.now.table.now.shape in
     let some : 1 ≤ shape.q = omega (arith, shape.base) in
     omega (arith, c.power.ensures, one-le-pow (c.digits.result - c.args.m) shape.q some)
 
 pub returns : goal.returns
 returns g c =
-    let shape = c.args.self.now.table.shape in
+    let shape = c.args.self.now.table.now.shape in
     let some : 1 ≤ shape.q = omega (arith, shape.base) in
     omega (
       arith,

@@ -13,7 +13,7 @@ block_within q M m b last h count few =
 
 pub block_points-requires : goal.block_points-requires
 block_points-requires g c =
-    let shape = c.args.self.now.table.shape in
+    let shape = c.args.self.now.table.now.shape in
     let m = c.args.m in
     let low : m ≤ shape.digits = omega (arith, c.digits.ensures) in
     (low, block_within shape.q shape.digits m c.args.block c.last_block.result low c.last_block.ensures c.if-block-last_block.false)
@@ -21,7 +21,7 @@ block_points-requires g c =
 pub returns : goal.returns
 returns g c =
     let m = c.args.m in
-    let shape = c.args.self.now.table.shape in
+    let shape = c.args.self.now.table.now.shape in
     let xs = c.as_slice.result.now in
     let t = c.in_ok-least_t.field-0 in
     subst (λ points. Least (λ u. Net shape.q shape.digits shape.coordinates u m points) t)

@@ -4,7 +4,7 @@ use Rattle.block_examples.proofs.points.Points.power.Goals as goal
 
 pub pow-requires : goal.pow-requires
 pow-requires g c =
-    let shape = c.args.self.now.table.shape in
+    let shape = c.args.self.now.table.now.shape in
     let some : 0 < shape.q = omega (arith, shape.base) in
     omega (
       arith,

@@ -7,8 +7,8 @@ use Rattle.block_examples.proofs.points.Points.row.Goals as goal
 
 pub loop-column-preserved : goal.loop-column-preserved
 loop-column-preserved g c =
-    let F = g.F.Field.means c.args.self.now.field in
-    let T = model c.args.self.now.table in
+    let F = g.F.Field.means c.args.self.now.field.now in
+    let T = model c.args.self.now.table.now in
     let f : ℕ → ℕ = λ k. F.product (T.entry c.args.coordinate c.args.row k) (digit T.q c.args.index k) in
     let q_is = c.from-q.ensures ∙ c.q.ensures in
     let at = c.loop-column.column in record {
@@ -21,8 +21,8 @@ loop-column-preserved g c =
 
 pub returns : goal.returns
 returns g c =
-    let F = g.F.Field.means c.args.self.now.field in
-    let T = model c.args.self.now.table in
+    let F = g.F.Field.means c.args.self.now.field.now in
+    let T = model c.args.self.now.table.now in
     let f : ℕ → ℕ = λ k. F.product (T.entry c.args.coordinate c.args.row k) (digit T.q c.args.index k) in
     let all : c.loop-column.column ≡ T.digits = omega (arith, c.digits-column-end.ensures) in
     c.loop-column.invariant.added ∙ ap (λ n. sum_over F n f) all

@@ -7,4 +7,4 @@ use Rattle.block_examples.proofs.points.Points.write_word.Given as goal
 abbrev pub invariant-loop-row : goal.invariant-loop-row
 invariant-loop-row g l =
     (k : ℕ) → k < l.row
-    → get_or l.word k 0 ≡ row (g.F.Field.means l.self.field) (model l.self.table) l.coordinate l.index (k + 1)
+    → get_or l.word k 0 ≡ row (g.F.Field.means l.self.field.now) (model l.self.table.now) l.coordinate l.index (k + 1)
