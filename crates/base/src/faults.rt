@@ -106,6 +106,7 @@ impl Kind {
 }
 
 impl Layer {
+    // As for `Kind`: the variants carry their numbers.
     /// The stated number of this layer.
     pub fn number(self) -> u8
         ensures { result ≡ layer_number self }

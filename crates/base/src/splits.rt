@@ -63,6 +63,7 @@ impl Splits {
             .filter(|place| *place > 0)
     }
 
+    // A bool, and no Option of what comes next: that stands in the value itself, and a copy of it would be no plainer.
     /// Goes to the next split of the same number; false, and nothing changes, at the last one.
     pub fn next(&mut self) -> bool
         ensures same { (self.new.coordinates ≡ self.old.coordinates) × (self.new.sum ≡ self.old.sum) }

@@ -13,6 +13,7 @@ use base::digits::number_of;
 use checks::check::least_t;
 use fields::field::Field;
 use orders::order::Order;
+use run::agree::agree;
 use scramblers::scrambler::Scrambler;
 use std::alloc::{AllocError, Global};
 use tables::table::Table;
@@ -48,13 +49,7 @@ impl<'a, F: Field, O: Order, S: Scrambler> Points<'a, F, O, S> {
         ensures scrambler { IfOk result (λ points. points.scrambler.now ≡ scrambler.now) }
         ensures table { IfOk result (λ points. points.table.now ≡ table.now) }
     {
-        if field.q() == table.q()
-            && order.q() == table.q()
-            && order.digits() == table.digits()
-            && scrambler.q() == table.q()
-            && scrambler.digits() == table.digits()
-            && scrambler.coordinates() == table.coordinates()
-        {
+        if agree(field, order, scrambler, table) {
             Ok(Points {
                 field,
                 order,
@@ -66,6 +61,7 @@ impl<'a, F: Field, O: Order, S: Scrambler> Points<'a, F, O, S> {
         }
     }
 
+    // A coordinate is a number here, as `Table::entry` and a scrambler take it: a type of its own would be unpacked at each.
     // A row of a coordinate at an index: the sum over the columns of the table's digit times the index's.
     fn row(&self, coordinate: u8, row: u8, index: u64) -> u8
         requires coordinate { coordinate < (model self.now.table.now).coordinates }

@@ -1,6 +1,7 @@
 -- A setting stays between the limits of its travel, and grows with its numerator. Assumes nothing.
-use Rattle.std.proofs.Common.{◌≡◌, ℕ, zero, suc, ◌+◌, ◌*◌, ◌/◌, ◌^◌, ◌<◌, ◌≤◌, List, length, get_or, set, ap₂, sym, ◌∙◌, subst, ⊎_elim, le_trans, mul-le-mul_right, le-div_iff_mul-le, div-mul-le_self, arith}
+use Rattle.std.proofs.Common.{◌≡◌, ℕ, zero, suc, ◌+◌, ◌*◌, ◌/◌, ◌^◌, ◌<◌, ◌≤◌, List, length, get_or, set, ap₂, sym, ◌∙◌, subst, ⊎_elim, le_trans, mul-le-mul_right, mul_comm, mul-lt-mul_of_pos_right, le-div_iff_mul-le, div-mul-le_self, arith}
 use native.Mathlib.Nat.{div-zero}
+use Rattle.std.proofs.lemmas.Nat.{div_below}
 use Rattle.std.proofs.lemmas.List.{get_or_default, get_or-set_other, get_or-set_same}
 use Rattle.std.proofs.lemmas.Bool.{cases_eq}
 use Rattle.base.specs.Shapes.{HasShape}
@@ -11,6 +12,12 @@ use Rattle.checks.specs.Settings.{Grows, Scaled, Scales}
 -- no travel
 abbrev pub still : Travel
 still = record { low = 0; span = 0 }
+
+-- a numerator below the number of positions gives fewer steps than the travel has counts
+pub steps_below_span : (Q span X : ℕ) → X < Q → 1 ≤ span → X * span / Q < span
+steps_below_span Q span X below some =
+    div_below (X * span) Q span (omega arith)
+    (subst (λ n. X * span < n) (mul_comm Q span) (mul-lt-mul_of_pos_right below (omega arith)))
 
 quotients_grow : (Q a b : ℕ) → a ≤ b → a / Q ≤ b / Q
 quotients_grow zero a b h = rw (div-zero a) (omega arith)

@@ -18,7 +18,7 @@ fn all_equal(counters: &[u32], expected: u32) -> bool
     counters.iter().all(|counter| *counter == expected)
 }
 
-// Sets each counter to 0: a loop over the counters, as over the points, since the check is to be read as one.
+// Sets each counter to 0. By a rule of the project the counting check loops over points and counters; std has `fill`.
 pub(crate) fn clear(counters: &mut [u32])
     ensures { counters.new ≡ replicate (length counters.old) 0 }
 {
@@ -41,6 +41,7 @@ pub(crate) struct Block<'a> {
     ghost small: { AllDigits (grid.shape.q ^ grid.shape.digits) points.now },
 }
 
+// The counters stay a parameter with their length: a block that held the caller's would have to give them back each time.
 impl<'a> Block<'a> {
     // The block of some points, which is counted in so many counters.
     pub(crate) fn new(

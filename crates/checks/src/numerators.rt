@@ -6,7 +6,7 @@ ghost use Rattle.base.specs.Tests.{Gives};
 
 use base::faults::{Fault, Kind, Layer};
 
-// It stays beside base's `first_bad_digit`: what is generic in both is std's `position`, the one call of each.
+// Tried as one with base's `first_bad_digit`: std's `Into` gives a proof only a relation, so a generic one would promise less.
 /// The index of the first numerator that is `positions` or more; none where all are below it.
 pub fn first_bad_numerator(numerators: &[u32], positions: u64) -> Option<usize>
     ensures { MatchOption result (AllDigits positions numerators.now) (FirstBad positions numerators.now) }
@@ -15,6 +15,7 @@ pub fn first_bad_numerator(numerators: &[u32], positions: u64) -> Option<usize>
 }
 
 // Refuses numerators of which one is `positions` or more: the place is the index of the first.
+// As base's `check_digits`: what one function could share is the match, two lines for two.
 pub(crate) fn check_numerators(
     numerators: &[u32],
     positions: u64,

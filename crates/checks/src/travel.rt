@@ -49,7 +49,7 @@ fn write_settings(positions: u64, numerators: &[u32], travel: &[Travel], out: &m
     requires fit { AllTravel travel.now }
     ensures { Scaled positions (length numerators.now) numerators.now travel.now out.new }
 {
-    // By index beside `iter_mut`: what a `zip` over it leaves in the slice is not known to a proof.
+    // By index beside `iter_mut`; tried: what a `zip` over it leaves in the slice is not known to a proof.
     for (j, setting) in out.iter_mut().enumerate() {
         *setting = travel[j].setting(positions, numerators[j]);
     }

@@ -6,6 +6,7 @@ use base::faults::{Fault, Kind, Layer};
 use base::limits::positions;
 
 /// q and the number of digits, within their limits, and q^digits.
+// Not a part of base's `Shape`: that would say `shape.size.q` in every clause that says `shape.q`.
 #[derive(Clone, Copy, Debug, PartialEq, Eq)]
 pub struct Size {
     pub(crate) q: u8,

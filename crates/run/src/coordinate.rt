@@ -16,7 +16,7 @@ impl Coordinate {
         requires { length column.now ≡ 32 }
         ensures { (k : ℕ) → k < 32 → slice_index self.new.digits k ≡ (F.Field.means field.now).sum (slice_index self.old.digits k) ((F.Field.means field.now).product (slice_index column.now k) by) }
     {
-        // The column is read by place: what a `zip` over `iter_mut` leaves in the digits is not known to a proof.
+        // The column is read by place; tried: what a `zip` over `iter_mut` leaves in the digits is not known to a proof.
         for (k, digit) in self.digits.iter_mut().enumerate() {
             *digit = field.add(*digit, field.mul(column[k], by));
         }

@@ -2,6 +2,7 @@
 #![tactic(auto)]
 
 pub(crate) mod advance;
+pub mod agree;
 pub(crate) mod coordinate;
 pub(crate) mod opened;
 pub(crate) mod point;

@@ -5,6 +5,7 @@ ghost use Rattle.run.specs.Runs.{Agree, Answers, call_tests};
 ghost use Rattle.run.specs.declared.replay.Call.TheVariants.{Step, Jump, At, Verdict};
 
 use crate::advance::{advance_one, present};
+use crate::agree::agree;
 use crate::coordinate::Coordinate;
 use crate::point::write_point;
 use base::faults::{Fault, Kind, Layer};
@@ -26,7 +27,7 @@ pub(crate) struct Setup<F, O, S> {
 #[derive(Clone, Copy)]
 pub(crate) struct Open {
     table: Table,
-    position: u64,
+    pub(crate) position: u64,
     // A plain array, since no run asks for memory: there are at most eight coordinates.
     coordinates: [Coordinate; 8],
 }
@@ -39,15 +40,11 @@ impl<F: Field, O: Order, S: Scrambler> Setup<F, O, S> {
     pub(crate) fn agrees(&self, table: &Table) -> bool
         ensures { IsTrue result ↔ Agree (parts_of F.Field O.Order S.Scrambler self.now) (model table.now) }
     {
-        self.field.q() == table.q()
-            && self.order.q() == table.q()
-            && self.order.digits() == table.digits()
-            && self.scrambler.q() == table.q()
-            && self.scrambler.digits() == table.digits()
-            && self.scrambler.coordinates() == table.coordinates()
+        agree(&self.field, &self.order, &self.scrambler, table)
     }
 }
 
+// Each call asks that the setup fits: a run says so once, by its invariant, and a struct of the two would be made for one call.
 impl Open {
     ghost use Rattle.run.specs.Setups.{parts_of};
     ghost use Rattle.tables.specs.Table.{model};

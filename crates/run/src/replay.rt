@@ -30,9 +30,8 @@ pub enum Call {
 #[derive(Clone, Copy)]
 pub struct Point {
     // No point asks for memory: the numerators past the coordinates are spare.
-    numerators: [u32; 8],
-    coordinates: u8,
-    ghost few: { coordinates ≤ 8 },
+    pub numerators: [u32; 8],
+    pub coordinates: u8,
 }
 
 /// What a run answers to a call that it accepts.
@@ -58,7 +57,8 @@ pub type Reply = Result<Outcome, Fault>;
 impl Point {
     ghost use Rattle.run.specs.Replays.{numerators_of};
 
-    // The point in a buffer; what is past the eighth place is left out.
+    // The point in a buffer; what is past the eighth place is left out. Base's `padded` is of bytes: over any type it would ask
+    // for a zero of that type, and this is the one caller.
     fn new(buffer: &[u32]) -> Point
         ensures { length buffer.now ≤ 8 → numerators_of result ≡ buffer.now }
     {
@@ -75,7 +75,7 @@ impl Point {
     pub fn numerators(&self) -> &[u32]
         ensures { result.now ≡ numerators_of self.now }
     {
-        &self.numerators[..self.coordinates as usize]
+        &self.numerators[..usize::from(self.coordinates).min(8)]
     }
 }
 
@@ -130,7 +130,7 @@ impl<F: Field + Drop, O: Order + Drop, S: Scrambler + Drop> Run<F, O, S> {
         ensures history { History (parts_of F.Field O.Order S.Scrambler self.old.setup) (view self.old.state) (log_of calls.now log.new) (view self.new.state) }
         ensures same { self.new.setup ≡ self.old.setup }
     {
-        // The log is written by index: what a `zip` over `iter_mut` leaves in it is not known to a proof.
+        // The log is written by index; tried: what a `zip` over `iter_mut` leaves in it is not known to a proof.
         for (i, call) in calls.iter().enumerate() {
             log[i] = self.make(*call);
         }

@@ -22,7 +22,7 @@ use tables::table::Table;
 pub struct Run<F: Field, O: Order, S: Scrambler> {
     setup: Setup<F, O, S>,
     state: Option<Open>,
-    ghost consistent: { Consistent (parts_of F.Field O.Order S.Scrambler setup) state },
+    pub ghost consistent: { Consistent (parts_of F.Field O.Order S.Scrambler setup) state },
 }
 
 impl<F: Field + Drop, O: Order + Drop, S: Scrambler + Drop> Run<F, O, S> {

@@ -17,7 +17,8 @@ use fields::field::Field;
 pub struct LinearScrambler<F: Field> {
     field: F,
     shape: Shape,
-    // The matrices one after the other, row by row; the rest is 0. An array, since nothing here may ask for heap memory.
+    // The matrices as the bytes come, one after the other and row by row, so that one copy keeps them; the rest is 0.
+    // An array, since nothing here may ask for heap memory.
     matrices: [u8; 8192],
     ghost same_q: { (F.Field.means field).q ≡ shape.q },
     ghost placed: { (i : ℕ) → i < shape.coordinates * (shape.digits * shape.digits)
@@ -46,6 +47,7 @@ fn first_misplaced(shape: &Shape, bytes: &[u8]) -> Option<usize>
 }
 
 // Refuses bytes of which one may not stand where it stands: the place is the index of the first.
+// As base's `check_digits`: what one function could share is the match, two lines for two.
 fn check_placed(shape: &Shape, bytes: &[u8]) -> Result<(), Fault>
     ensures { Gives (place_tests shape.now.q shape.now.digits bytes.now) result
         (λ _. AllPlaced shape.now.q shape.now.digits bytes.now) }

@@ -11,7 +11,8 @@ use base::limits::Shape;
 #[derive(Clone, Copy)]
 pub struct ShiftScrambler {
     shape: Shape,
-    // The key digits, coordinate by coordinate; the rest is 0. An array, since nothing here may ask for heap memory.
+    // The key digits as they come, coordinate by coordinate, so that one copy keeps them; the rest is 0.
+    // An array, since nothing here may ask for heap memory.
     key: [u8; 256],
     ghost digits: { (i : ℕ) → slice_index key i < shape.q },
 }
@@ -65,7 +66,7 @@ impl Scrambler for ShiftScrambler {
             return;
         }
         let first = usize::from(coordinate) * usize::from(self.shape.digits);
-        // The key is read by place: what a `zip` over `iter_mut` leaves in the word is not known to a proof.
+        // The key is read by place; tried: what a `zip` over `iter_mut` leaves in the word is not known to a proof.
         for (place, digit) in word.iter_mut().enumerate() {
             *digit = (*digit + self.key[first + place]) % self.shape.q;
         }

@@ -33,6 +33,7 @@ impl Polynomial {
     {
         let order = (1u16 << self.degree) - 1;
         let mut power = 1;
+        // A loop, since each power is the one before it times x, and the first that is 1 ends it.
         for _e in 1..order {
             power = self.times_x(power);
             if power == 1 {

@@ -13,6 +13,7 @@ pub const LIST_BYTES: usize = 160;
 #[derive(Drop)]
 pub struct Reader<'a> {
     list: &'a [u8],
+    // A place and not a rest of the list, since a fault tells the place.
     place: usize,
 }
 

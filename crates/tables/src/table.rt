@@ -14,6 +14,7 @@ const PLACES: usize = 8192;
 pub struct Table {
     shape: Shape,
     // No table asks for memory. A column lies in one piece, so that a step reads it in one go; places out of use hold 0.
+    // Flat, since one loop fills it by place: nested, each of three layers would need a loop and an invariant of its own.
     entries: [u8; PLACES],
     ghost small: { (i : ℕ) → slice_index entries i < shape.q },
     ghost spare: { (i : ℕ) → used shape.digits shape.coordinates i ≡ false → slice_index entries i ≡ 0 },

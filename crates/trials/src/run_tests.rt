@@ -26,17 +26,18 @@ fn points_and_changed_digits(rt: HostRuntime) -> Result<(), Fail> {
         (3, 1, 1),
         (7, 5, 0),
     ];
-    let mut position = 0u64;
-    for (first, second, digits) in expected {
+    for (position, (first, second, digits)) in expected.iter().enumerate() {
         let mut out = [9u32; 2];
         let (handed, changed) = run.step(&mut out)?;
-        assert!(rt; handed == position);
-        assert_eq!(rt; changed, digits);
-        assert_eq!(rt; out[0], first);
-        assert_eq!(rt; out[1], second);
-        position = handed.wrapping_add(1);
+        assert_eq!(rt; handed, position as u64);
+        assert_eq!(rt; changed, *digits);
+        assert_eq!(rt; out[0], *first);
+        assert_eq!(rt; out[1], *second);
     }
-    assert_eq!(rt; run.step(&mut [9; 2]).err().map(Numbers::from), Some(Numbers(21, 3, 255, 0)));
+    assert_eq!(rt;
+        run.step(&mut [9; 2]).err().map(Numbers::from),
+        Some(Numbers(21, 3, 255, 0))
+    );
     let mut out = [9u32; 2];
     run.at(5, &mut out)?;
     assert_eq!(rt; out[1], 3);
@@ -49,18 +50,54 @@ fn points_and_changed_digits(rt: HostRuntime) -> Result<(), Fail> {
 #[test]
 fn refused_calls(rt: HostRuntime) -> Result<(), Fail> {
     let mut run = Run::new(BitField, PlainOrder::new(2, 3)?, NoScrambler::new(2, 3, 2)?);
-    assert_eq!(rt; run.step(&mut [9; 2]).err().map(Numbers::from), Some(Numbers(20, 3, 255, 0)));
-    assert_eq!(rt; run.jump(0).err().map(Numbers::from), Some(Numbers(20, 3, 255, 0)));
-    assert_eq!(rt; run.at(0, &mut [9; 2]).err().map(Numbers::from), Some(Numbers(20, 3, 255, 0)));
-    assert_eq!(rt; run.verdict(0).err().map(Numbers::from), Some(Numbers(20, 3, 255, 0)));
-    assert_eq!(rt; run.start(&[0; 19], 3).err().map(Numbers::from), Some(Numbers(3, 1, 255, 0)));
-    assert_eq!(rt; run.start(GOOD, 4).err().map(Numbers::from), Some(Numbers(9, 3, 255, 0)));
-    assert_eq!(rt; run.open(&sobol_table(GOOD, 4)?).err().map(Numbers::from), Some(Numbers(9, 3, 255, 0)));
+    assert_eq!(rt;
+        run.step(&mut [9; 2]).err().map(Numbers::from),
+        Some(Numbers(20, 3, 255, 0))
+    );
+    assert_eq!(rt;
+        run.jump(0).err().map(Numbers::from),
+        Some(Numbers(20, 3, 255, 0))
+    );
+    assert_eq!(rt;
+        run.at(0, &mut [9; 2]).err().map(Numbers::from),
+        Some(Numbers(20, 3, 255, 0))
+    );
+    assert_eq!(rt;
+        run.verdict(0).err().map(Numbers::from),
+        Some(Numbers(20, 3, 255, 0))
+    );
+    assert_eq!(rt;
+        run.start(&[0; 19], 3).err().map(Numbers::from),
+        Some(Numbers(3, 1, 255, 0))
+    );
+    assert_eq!(rt;
+        run.start(GOOD, 4).err().map(Numbers::from),
+        Some(Numbers(9, 3, 255, 0))
+    );
+    assert_eq!(rt;
+        run.open(&sobol_table(GOOD, 4)?).err().map(Numbers::from),
+        Some(Numbers(9, 3, 255, 0))
+    );
     run.start(GOOD, 3)?;
-    assert_eq!(rt; run.step(&mut [9; 3]).err().map(Numbers::from), Some(Numbers(3, 3, 255, 0)));
-    assert_eq!(rt; run.at(8, &mut [9; 3]).err().map(Numbers::from), Some(Numbers(3, 3, 255, 0)));
-    assert_eq!(rt; run.at(8, &mut [9; 2]).err().map(Numbers::from), Some(Numbers(8, 3, 255, 0)));
-    assert_eq!(rt; run.jump(8).err().map(Numbers::from), Some(Numbers(8, 3, 255, 0)));
-    assert_eq!(rt; run.verdict(4).err().map(Numbers::from), Some(Numbers(8, 3, 255, 0)));
+    assert_eq!(rt;
+        run.step(&mut [9; 3]).err().map(Numbers::from),
+        Some(Numbers(3, 3, 255, 0))
+    );
+    assert_eq!(rt;
+        run.at(8, &mut [9; 3]).err().map(Numbers::from),
+        Some(Numbers(3, 3, 255, 0))
+    );
+    assert_eq!(rt;
+        run.at(8, &mut [9; 2]).err().map(Numbers::from),
+        Some(Numbers(8, 3, 255, 0))
+    );
+    assert_eq!(rt;
+        run.jump(8).err().map(Numbers::from),
+        Some(Numbers(8, 3, 255, 0))
+    );
+    assert_eq!(rt;
+        run.verdict(4).err().map(Numbers::from),
+        Some(Numbers(8, 3, 255, 0))
+    );
     Ok(())
 }

@@ -23,6 +23,7 @@ fn pivot_of<F: Field>(field: &F, row: &Row, columns: usize) -> Option<Pivot>
     requires digits { (l : ℕ) → l < columns → slice_index row.now l < (F.Field.means field.now).q }
     ensures { MatchOption result ((l : ℕ) → l < columns → slice_index row.now l ≡ 0) (PivotAt (F.Field.means field.now) columns row.now) }
 {
+    // By a rule of the project the search for a pivot takes the inverse apart, so this is no `find_map`.
     for (column, digit) in row[..columns].iter().enumerate() {
         if let Some(inverse) = field.inverse(*digit) {
             return Some(Pivot { column, inverse });
@@ -36,7 +37,7 @@ fn add_multiple<F: Field>(field: &F, row: &mut Row, factor: u8, other: &Row, col
     requires { columns ≤ 32 }
     ensures { (l : ℕ) → l < columns → slice_index row.new l ≡ (F.Field.means field.now).sum (slice_index row.old l) ((F.Field.means field.now).product factor (slice_index other.now l)) }
 {
-    // The sum is written by index: what a `zip` over `iter_mut` leaves in the row is not known to a proof.
+    // The sum is written by index; tried: what a `zip` over `iter_mut` leaves in the row is not known to a proof.
     for (column, digit) in other[..columns].iter().enumerate() {
         row[column] = field.add(row[column], field.mul(factor, *digit));
     }

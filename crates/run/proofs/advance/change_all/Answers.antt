@@ -3,19 +3,9 @@ use Rattle.std.proofs.lemmas.Bool.{cases_lt}
 use Rattle.std.proofs.lemmas.List.{length-set, set-get_or}
 use Rattle.tables.specs.Table.{model}
 use Rattle.run.specs.Present.{no_digits, shown}
-use Rattle.run.proofs.Changes.{changed_none, changed_past, changed_turn}
+use Rattle.run.proofs.Changes.{changed_past, changed_turn}
 use Rattle.run.proofs.advance.change_all.Goals as goal
 use Rattle.run.proofs.advance.change_all.Goals.{in-Some, in_default}
-
-pub loop-j-init : goal.loop-j-init
-loop-j-init g c =
-    let F = g.F.Field.means c.args.field.now in
-    let T = model c.args.table.now in
-    let none : min 0 T.coordinates ≡ 0 = omega arith in
-    record {
-      size = c.told-coordinates;
-      changed = λ inside. rw none (changed_none F T c.args.column c.args.by c.args.coordinates.now);
-    }
 
 pub loop-j-preserved : goal.loop-j-preserved
 loop-j-preserved g c =

@@ -1,6 +1,6 @@
 use Rattle.std.proofs.Common.{◌∙◌, arith, rules}
 use Rattle.std.proofs.lemmas.List.{length-set}
-use Rattle.tables.proofs.Powers.{column_of_one, columns_more, next_column}
+use Rattle.tables.proofs.Powers.{columns_more, next_column}
 use Rattle.tables.proofs.faure.powers.Goals as goal
 
 pub loop-column-preserved : goal.loop-column-preserved

@@ -1,4 +1,4 @@
-use Rattle.std.proofs.Common.{◌≡◌, ℕ, ◌/◌, ◌%◌, ◌^◌, sym, ap, ◌∙◌, ap₂, pow-suc, add-one, arith}
+use Rattle.std.proofs.Common.{ℕ, ◌/◌, ◌%◌, ◌^◌, sym, ap, ◌∙◌, ap₂, pow-suc, add-one}
 use native.Mathlib.Nat.{div-div-eq-div-mul}
 use Rattle.base.specs.Fields.{sum_over}
 use Rattle.base.specs.Orders.{digit}
@@ -18,11 +18,3 @@ loop-column-preserved g c =
       left = ap₂ ◌/◌ c.loop-column.invariant.left q_is ∙ div-div-eq-div-mul c.args.index (T.q ^ at) T.q
           ∙ ap (λ n. c.args.index / n) (sym (ap (λ n. T.q ^ n) (add-one at) ∙ pow-suc T.q at));
     }
-
-pub returns : goal.returns
-returns g c =
-    let F = g.F.Field.means c.args.self.now.field.now in
-    let T = model c.args.self.now.table.now in
-    let f : ℕ → ℕ = λ k. F.product (T.entry c.args.coordinate c.args.row k) (digit T.q c.args.index k) in
-    let all : c.loop-column.column ≡ T.digits = omega (arith, c.digits-column-end.ensures) in
-    c.loop-column.invariant.added ∙ ap (λ n. sum_over F n f) all

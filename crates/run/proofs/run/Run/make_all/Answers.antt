@@ -1,15 +1,11 @@
-use Rattle.std.proofs.Common.{get_or, refl, ◌∙◌, subst}
+use Rattle.std.proofs.Common.{get_or, ◌∙◌, subst}
 use Rattle.std.proofs.lemmas.List.{length-set}
-use Rattle.run.specs.Law.{History}
 use Rattle.run.specs.Replays.{answer_of}
 use Rattle.run.specs.Runs.{Answers, parts}
 use Rattle.run.specs.States.{view}
 use Rattle.run.specs.declared.replay.Call.TheVariants.{Step}
-use Rattle.run.proofs.Logging.{log_all, log_more}
+use Rattle.run.proofs.Logging.{log_more}
 use Rattle.run.proofs.run.Run.make_all.Goals as goal
-
-pub loop-i-init : goal.loop-i-init
-loop-i-init g c = record { size = c.requires; same = refl; history = refl }
 
 pub loop-i-preserved : goal.loop-i-preserved
 loop-i-preserved g c =
@@ -31,11 +27,3 @@ loop-i-preserved g c =
       same = c.make.ensures.same ∙ inv.same;
       history = log_more P (view x.state) (view y.state) (view z.state) calls log i c.make.result c.loop-i-test.true inv.size inv.history made;
     }
-
-pub returns-clause-history : goal.returns-clause-history
-returns-clause-history g c =
-    let x = c.args.self.now in
-    let P = parts (g.F.Field.means x.setup.field) (g.O.Order.means x.setup.order) (g.S.Scrambler.means x.setup.scrambler) in
-    let inv = c.loop-i.invariant in
-    subst (λ h. History P (view x.state) h (view c.loop-i.self.state)) (log_all c.args.calls.now c.loop-i.log c.loop-i.i c.loop-i-test.false inv.size)
-    inv.history

@@ -1,16 +1,8 @@
 use Rattle.std.proofs.Common.{◌≡◌, length, sym, ◌∙◌, rules}
 use Rattle.std.proofs.lemmas.Bool.{true≢false}
 use Rattle.std.proofs.lemmas.List.{take_rest}
-use Rattle.tables.specs.Record.{HeadOf}
 use Rattle.tables.proofs.Givens.{parted}
 use Rattle.tables.proofs.record.Record.given.Goals as goal
-
-pub returns-then-not-head_is_sound : goal.returns-then-not-head_is_sound
-returns-then-not-head_is_sound c layout =
-    let apart = c.in_ok-parts.ensures in
-    let p = c.in_ok-parts.parts in
-    let head : HeadOf p.degree p.zero p.polynomial = rw (apart.degree_is, apart.zero_is, apart.polynomial_is) layout.1 in
-    true≢false (sym (c.head_is_sound.ensures.1 head) ∙ c.if-not-head_is_sound.true)
 
 pub returns-then-not-are_zero : goal.returns-then-not-are_zero
 returns-then-not-are_zero c layout =
