@@ -19,7 +19,7 @@ const NUMERATORS: usize = 16 * COORDINATES as usize;
 // A run of eight coordinates over 2^16, in Gray order and not scrambled.
 type PublishedRun = Run<BitField, GrayOrder, NoScrambler>;
 
-// Prints a position and the numerators of its point.
+// Prints a position and the numerators of its point. The program `points` has its own: no crate of printing for one loop.
 fn print_point(rt: &HostRuntime, position: u64, point: &[u32]) -> anyhow::Result<()> {
     print!(rt; "published {position}:")?;
     for numerator in point {

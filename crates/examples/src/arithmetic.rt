@@ -1,19 +1,26 @@
 //! The tables of the field of four.
+ghost use Rattle.std.specs.Prelude.{ℕ, ◌<◌};
+
 use fields::field::Field;
 use fields::four::FourField;
+
+// Prints what a rule makes of each digit below q.
+fn print_each<R: Fn(u8) -> u8>(rt: &HostRuntime, q: u8, rule: R) -> anyhow::Result<()>
+    requires { (b : ℕ) → b < q → R.pre rule b }
+{
+    for b in 0..q {
+        let digit = rule(b);
+        print!(rt; " {digit}")?;
+    }
+    Ok(())
+}
 
 // Prints the sums and the products of a digit with every digit.
 fn print_row<F: Field>(rt: &HostRuntime, field: &F, a: u8) -> anyhow::Result<()> {
     print!(rt; "  {a} +")?;
-    for b in 0..field.q() {
-        let sum = field.add(a, b);
-        print!(rt; " {sum}")?;
-    }
+    print_each(rt, field.q(), |b| field.add(a, b))?;
     print!(rt; "   {a} x")?;
-    for b in 0..field.q() {
-        let product = field.mul(a, b);
-        print!(rt; " {product}")?;
-    }
+    print_each(rt, field.q(), |b| field.mul(a, b))?;
     println!(rt; "")?;
     Ok(())
 }

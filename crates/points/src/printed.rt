@@ -14,7 +14,16 @@ fn print_point(rt: &HostRuntime, position: u64, point: &Point) -> anyhow::Result
 // Prints a call's reply.
 fn print_reply(rt: &HostRuntime, call: Call, reply: Reply) -> anyhow::Result<()> {
     match (call, reply) {
-        (_, Ok(Outcome::Stepped { position, point, .. })) => print_point(rt, position, &point)?,
+        (
+            _,
+            Ok(
+                Outcome::Stepped {
+                    position,
+                    point,
+                    ..
+                },
+            ),
+        ) => print_point(rt, position, &point)?,
         (Call::Verdict { m }, Ok(Outcome::Least { t })) => println!(rt; "t {m} {t}")?,
         (_, Ok(_)) => {}
         (_, Err(fault)) => println!(rt; "{fault}")?,

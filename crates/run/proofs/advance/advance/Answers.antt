@@ -3,22 +3,10 @@ use native.Mathlib.Nat.{div-eq_of_lt}
 use Rattle.base.specs.Orders.{digit}
 use Rattle.tables.specs.Table.{model}
 use Rattle.run.specs.Present.{Changed}
-use Rattle.run.proofs.Moving.{MovedUpTo, first_quotient, moved_all, moved_changed, moved_none, moved_same, next_quotient}
+use Rattle.run.proofs.Moving.{MovedUpTo, moved_all, moved_changed, moved_same, next_quotient}
 use Rattle.verdict.proofs.SplitAnswers.{table_over}
 use Rattle.run.proofs.advance.advance.Goals as goal
 use Rattle.run.proofs.advance.advance.Goals.{then-a-b, else-a-b}
-
-pub loop-column-init : goal.loop-column-init
-loop-column-init g c =
-    let F = g.F.Field.means c.args.field.now in
-    let laws = g.met.F.Field.keeps c.args.field.now in (
-      c.told-coordinates,
-      omega arith,
-      first_quotient c.args.table.now.shape.q c.args.from,
-      first_quotient c.args.table.now.shape.q c.args.to,
-      λ same present. moved_none F (model c.args.table.now) (table_over F laws c.args.table.now same) c.args.from c.args.to
-          c.args.coordinates.now present,
-    )
 
 pub loop-column-preserved : goal.loop-column-preserved
 loop-column-preserved g c =

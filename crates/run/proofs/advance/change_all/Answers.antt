@@ -1,4 +1,4 @@
-use Rattle.std.proofs.Common.{◌≡◌, ◌<◌, ◌≤◌, length, min, ap, ◌∙◌, ⊎_elim, arith}
+use Rattle.std.proofs.Common.{◌<◌, ◌≤◌, length, ap, ◌∙◌, ⊎_elim, arith}
 use Rattle.std.proofs.lemmas.Bool.{cases_lt}
 use Rattle.std.proofs.lemmas.List.{length-set, set-get_or}
 use Rattle.tables.specs.Table.{model}
@@ -35,10 +35,3 @@ loop-j-preserved g c =
                 (c.loop-j.invariant.changed inside);
           }
     ]
-
-pub returns : goal.returns
-returns g c inside =
-    let T = model c.args.table.now in
-    let few = c.args.table.now.shape.dimension in
-    let all : min c.loop-j.j T.coordinates ≡ T.coordinates = omega arith in
-    rw all at (c.loop-j.invariant.changed inside)
