@@ -1,5 +1,5 @@
 //! The test of bytes that should be digits, their number, and keeping them in an array.
-ghost use Rattle.std.specs.Prelude.{◌≡◌, ℕ, ◌%◌, ◌^◌, ◌<◌, MatchOption, slice_index};
+ghost use Rattle.std.specs.Prelude.{◌≡◌, ℕ, ◌%◌, ◌^◌, ◌<◌, MatchOption, slice_index_or};
 ghost use Rattle.base.specs.Digits.{AllDigits, FirstBad, digit_tests};
 ghost use Rattle.base.specs.Faults.{layer_number};
 ghost use Rattle.base.specs.Points.{numerator};
@@ -15,6 +15,7 @@ pub fn first_bad_digit(bytes: &[u8], q: u8) -> Option<usize>
 }
 
 /// Refuses bytes of which one is no digit, being q or more: the place is the index of the first.
+#[tactic(auto, using(crate::proofs::Testing::digits_refused, crate::proofs::Testing::digits_clean))]
 pub fn check_digits(bytes: &[u8], q: u8, layer: Layer) -> Result<(), Fault>
     ensures { Gives (digit_tests q (layer_number layer) bytes.now) result (λ _. AllDigits q bytes.now) }
 {
@@ -35,12 +36,12 @@ pub fn number_of(word: &[u8], q: u8) -> u32
     })
 }
 
-/// Some bytes in an array, with 0 after them; what is past its last place is left out.
-pub fn padded<const N: usize>(bytes: &[u8]) -> [u8; N]
-    ensures { (i : ℕ) → i < N → slice_index result i ≡ slice_index bytes.now i }
+/// Some items in an array, with spare ones after them; what is past its last place is left out.
+pub fn padded<T: Copy, const N: usize>(items: &[T], spare: T) -> [T; N]
+    ensures { (i : ℕ) → i < N → slice_index_or result i spare ≡ slice_index_or items.now i spare }
 {
-    let kept = bytes.len().min(N);
-    let mut array = [0u8; N];
-    array[..kept].copy_from_slice(&bytes[..kept]);
+    let kept = items.len().min(N);
+    let mut array = [spare; N];
+    array[..kept].copy_from_slice(&items[..kept]);
     array
 }

@@ -9,7 +9,7 @@ use crate::faults::{Fault, Kind, Layer};
 pub fn positions(q: u8, digits: u8) -> Option<u64>
     ensures { SomeIff result (BaseLimits q × DigitLimits q digits) (q ^ digits) }
 {
-    if q < 2 || q > 16 || digits < 1 {
+    if !(2..=16).contains(&q) || digits < 1 {
         return None;
     }
     let n = u64::from(q).checked_pow(u32::from(digits))?;
@@ -20,10 +20,11 @@ pub fn positions(q: u8, digits: u8) -> Option<u64>
 pub fn keep_limits(q: u8, digits: u8, coordinates: u8) -> bool
     ensures { IsTrue result ↔ Limits q digits coordinates }
 {
-    coordinates >= 1 && coordinates <= 8 && positions(q, digits).is_some()
+    (1..=8).contains(&coordinates) && positions(q, digits).is_some()
 }
 
 /// q and the numbers of digits and of coordinates, within their limits, and the number of positions, q^digits.
+// Public calls take the three as numbers and make the shape themselves: to take one would ask more of their callers.
 #[derive(Clone, Copy, PartialEq, Eq, Debug)]
 pub struct Shape {
     pub q: u8,
@@ -48,7 +49,7 @@ impl Shape {
         ensures { Gives (limit_tests (layer_number layer) q digits coordinates) result (HasShape q digits coordinates) }
     {
         match positions(q, digits) {
-            Some(positions) if coordinates >= 1 && coordinates <= 8 => Ok(Shape {
+            Some(positions) if (1..=8).contains(&coordinates) => Ok(Shape {
                 q,
                 digits,
                 coordinates,

@@ -1,12 +1,12 @@
 //! The splits of a number over coordinates, one after the other.
-ghost use Rattle.std.specs.Prelude.{◌≡◌, ℕ, ◌<◌, ◌≤◌, true, false, ◌⊎◌, List, None, length, take, IfSome, MatchOption, slice_index};
+ghost use Rattle.std.specs.Prelude.{◌≡◌, ℕ, ◌<◌, ◌≤◌, ◌⊎◌, List, None, length, take, IfSome, MatchOption, slice_index};
 ghost use Rattle.std.specs.Option.{SomeIff};
 ghost use Rattle.base.specs.Nets.{Split, total};
 
 /// The split at hand: a count for each of up to eight coordinates, together `sum`.
 ///
-/// It is stepped in place and is no `Iterator`: an item could not lend its counts, so each split would come as a copy.
-#[derive(Clone, Copy)]
+/// It is no `Iterator`: the split at hand lends its counts, which an item of an iterator could not.
+#[derive(Clone, Copy, Debug, PartialEq, Eq)]
 pub struct Splits {
     coordinates: u8,
     sum: u8,
@@ -24,7 +24,7 @@ impl Splits {
     pub fn first(coordinates: u8, sum: u8) -> Option<Splits>
         ensures { MatchOption result ((1 ≤ coordinates) × (coordinates ≤ 8) → ⊥) (λ x. (x.coordinates ≡ coordinates) × (x.sum ≡ sum) × Split coordinates sum (counts_of x) × ((other : List ℕ) → Split coordinates sum other → Before other (counts_of x) → ⊥)) }
     {
-        if coordinates < 1 || coordinates > 8 {
+        if !(1..=8).contains(&coordinates) {
             return None;
         }
         let mut counts = [0u8; 8];
@@ -63,18 +63,15 @@ impl Splits {
             .filter(|place| *place > 0)
     }
 
-    // A bool, and no Option of what comes next: that stands in the value itself, and a copy of it would be no plainer.
-    /// Goes to the next split of the same number; false, and nothing changes, at the last one.
-    pub fn next(&mut self) -> bool
-        ensures same { (self.new.coordinates ≡ self.old.coordinates) × (self.new.sum ≡ self.old.sum) }
-        ensures last { result ≡ false → (self.new ≡ self.old) × NoneAfter self.old.coordinates self.old.sum (counts_of self.old) }
-        ensures after { result ≡ true → Before (counts_of self.old) (counts_of self.new) }
-        ensures none_between { result ≡ true → (other : List ℕ) → Split self.old.coordinates self.old.sum other → Before other (counts_of self.new) → Before other (counts_of self.old) ⊎ (other ≡ counts_of self.old) }
-        ensures falls { result ≡ true → left self.old.sum (counts_of self.new) < left self.old.sum (counts_of self.old) }
+    /// The next split of the same number; none at the last one.
+    pub fn next(&self) -> Option<Splits>
+        ensures same { IfSome result (λ x. (x.coordinates ≡ self.now.coordinates) × (x.sum ≡ self.now.sum)) }
+        ensures last { result ≡ None → NoneAfter self.now.coordinates self.now.sum (counts_of self.now) }
+        ensures after { IfSome result (λ x. Before (counts_of self.now) (counts_of x)) }
+        ensures none_between { IfSome result (λ x. (other : List ℕ) → Split self.now.coordinates self.now.sum other → Before other (counts_of x) → Before other (counts_of self.now) ⊎ (other ≡ counts_of self.now)) }
+        ensures falls { IfSome result (λ x. left self.now.sum (counts_of x) < left self.now.sum (counts_of self.now)) }
     {
-        let Some(place) = self.last_giver() else {
-            return false;
-        };
+        let place = self.last_giver()?;
         // One goes to the coordinate before; what is left goes to the last.
         let given = self.counts[place] - 1;
         let last = self.coordinates as usize - 1;
@@ -82,7 +79,10 @@ impl Splits {
         counts[place] = 0;
         counts[last] = given;
         counts[place - 1] += 1;
-        self.counts = counts;
-        true
+        Some(Splits {
+            coordinates: self.coordinates,
+            sum: self.sum,
+            counts,
+        })
     }
 }

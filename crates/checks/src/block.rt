@@ -96,26 +96,24 @@ impl<'a> Block<'a> {
         all_equal(cells, expected)
     }
 
-    // Whether each cell of each split of m - t holds q^t points.
+    // Whether each cell of each split of m - t holds q^t points. The verdict goes through the splits in the same way: one function
+    // for both would take a closure that changes the counters.
     fn all_splits_even(&self, t: u8, counters: &mut [u32]) -> bool
         requires within { t ≤ self.now.m }
         requires room { length counters.old ≡ self.now.size }
         ensures { IsTrue result ↔ ((counts : List ℕ) → Split self.now.grid.shape.coordinates (self.now.m - t) counts → Even self.now.grid.shape.q self.now.grid.shape.digits (self.now.grid.shape.q ^ t) (points_of self.now.grid.shape.coordinates self.now.size self.now.points.now) counts) }
     {
-        let Some(mut splits) = Splits::first(self.grid.shape.coordinates, self.m - t) else {
-            return unreachable();
-        };
-        loop {
+        let mut at = Splits::first(self.grid.shape.coordinates, self.m - t);
+        while let Some(splits) = at {
             if !self.split_is_even(t, splits.counts(), counters) {
                 return false;
             }
-            if !splits.next() {
-                return true;
-            }
+            at = splits.next();
         }
+        true
     }
 
-    // The least t for which the points form a net.
+    // The least t for which the points form a net. A loop, since a closure given to `find` would change the counters.
     pub(crate) fn least_t(&self, counters: &mut [u32]) -> u8
         requires { length counters.old ≡ self.now.size }
         ensures { Least (λ t. Net self.now.grid.shape.q self.now.grid.shape.digits self.now.grid.shape.coordinates t self.now.m (points_of self.now.grid.shape.coordinates self.now.size self.now.points.now)) result }

@@ -44,7 +44,7 @@ impl Grid {
         }
     }
 
-    // The number of a point's cell.
+    // The number of a point's cell. What counts fit stands in clauses: a `Splits` in their place would say it of its own numbers.
     pub(crate) fn cell_of(&self, counts: &[u8], point: &[u32]) -> u64
         requires each { length point.now ≡ length counts.now }
         requires within { total counts.now ≤ self.now.shape.digits }

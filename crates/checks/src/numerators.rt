@@ -16,6 +16,7 @@ pub fn first_bad_numerator(numerators: &[u32], positions: u64) -> Option<usize>
 
 // Refuses numerators of which one is `positions` or more: the place is the index of the first.
 // As base's `check_digits`: what one function could share is the match, two lines for two.
+#[tactic(auto, using(base::proofs::Testing::digits_refused, base::proofs::Testing::digits_clean))]
 pub(crate) fn check_numerators(
     numerators: &[u32],
     positions: u64,

@@ -32,7 +32,7 @@ impl ShiftedOrder {
         check_digits(key, q, Layer::Making)?;
         Ok(ShiftedOrder {
             size,
-            key: padded(key),
+            key: padded(key, 0),
         })
     }
 }

@@ -1,5 +1,5 @@
 -- What an empty run answers, what a verdict says, and the law where a table was opened. Assumes nothing.
-use Rattle.std.proofs.Common.{◌≡◌, ℕ, List, ◌++◌, Some, None, Ok, Err, Option, Result, sym, ◌∙◌, subst, ap₂, inl, ⊎_elim}
+use Rattle.std.proofs.Common.{◌≡◌, ℕ, List, ◌∷◌, ◌++◌, Some, None, Ok, Err, Option, Result, sym, ◌∙◌, subst, ap₂, inl, inr, ⊎_elim}
 use Rattle.base.proofs.Testing.{clean_append, refused_right}
 use Rattle.base.specs.Blocks.{Fit}
 use Rattle.base.specs.Faults.{refusal, stated}
@@ -92,16 +92,27 @@ agree_back P a b same agree =
       scrambler_coordinates = agree.scrambler_coordinates ∙ sym same.coordinates;
     }
 
--- an open after the table of a list was built
-pub start_gives : (P : Parts) (list : List ℕ) (M : ℕ) (T : TableModel) (r : Result (Unit {0}) Fault) (state : Option Open)
-    → Clean (sobol_tests list M) → SameTable T (sobol_table list M) → Gives (open_tests P T) r (λ _. Opens P T state)
-    → Gives (sobol_tests list M ++ open_tests P (sobol_table list M)) r
-    (λ _. (U : TableModel) × SameTable U (sobol_table list M) × Opens P U state)
-start_gives P list M T (Ok x) state clean same told = (
+-- what is opened after the table of a list was built
+pub start_gives : (P : Parts) (list : List ℕ) (M : ℕ) (T : TableModel) (r : Result (Unit {0}) Fault) (Q : TableModel → Type 0)
+    → Clean (sobol_tests list M) → SameTable T (sobol_table list M) → Gives (open_tests P T) r (λ _. Q T)
+    → Gives (sobol_tests list M ++ open_tests P (sobol_table list M)) r (λ _. (U : TableModel) × SameTable U (sobol_table list M) × Q U)
+start_gives P list M T (Ok x) Q clean same told = (
   clean_append (sobol_tests list M) (open_tests P (sobol_table list M)) clean
       ((λ other. told.0.0 (λ agree. other (agree_same P T (sobol_table list M) same agree))), tt),
   (T, same, told.1),
 )
-start_gives P list M T (Err f) state clean same told =
+start_gives P list M T (Err f) Q clean same told =
     refused_right (sobol_tests list M) (open_tests P (sobol_table list M)) (stated f) clean
     (⊎_elim (λ other. inl ((λ agree. other.0 (agree_back P T (sobol_table list M) same agree)), other.1)) (λ none. absurd none.1) told)
+
+-- ---- a test that finds nothing
+
+-- it may be left out
+pub gives_without : {X : Type 0} (t : Test) (ts : List Test) (r : Result X Fault) (Q : X → Type 0) → (t.found → ⊥) → Gives (t ∷ ts) r Q → Gives ts r Q
+gives_without t ts (Ok x) Q none told = (told.0.1, told.1)
+gives_without t ts (Err f) Q none told = ⊎_elim (λ bad. absurd (none bad.0)) (λ later. later.1) told
+
+-- and it may be put first
+pub gives_with : {X : Type 0} (t : Test) (ts : List Test) (r : Result X Fault) (Q : X → Type 0) → (t.found → ⊥) → Gives ts r Q → Gives (t ∷ ts) r Q
+gives_with t ts (Ok x) Q none told = ((none, told.0), told.1)
+gives_with t ts (Err f) Q none told = inr (none, told)

@@ -1,17 +1,15 @@
 //! Moving the present digits from one index to another.
-ghost use Rattle.std.specs.Prelude.{◌≡◌, ◌+◌, ◌^◌, ◌<◌, ◌≤◌};
+ghost use Rattle.std.specs.Prelude.{◌≡◌, ◌^◌, ◌<◌};
 ghost use Rattle.base.specs.Orders.{digit};
 ghost use Rattle.tables.specs.Table.{model};
 ghost use Rattle.run.specs.Present.{Changed, Moved, Present};
 
 use crate::coordinate::Coordinate;
-use crate::opened::Setup;
 use fields::field::Field;
-use orders::order::Order;
-use scramblers::scrambler::Scrambler;
 use tables::table::Table;
 
 // Changes every coordinate for one index digit that changed.
+// Field and table stay two parameters: a struct of references to both would be made anew for each call, and lengthen each clause.
 fn change_all<F: Field>(
     field: &F,
     table: &Table,
@@ -71,22 +69,4 @@ pub(crate) fn present<F: Field>(field: &F, table: &Table, index: u64) -> [Coordi
     let mut coordinates = [Coordinate { digits: [0; 32] }; 8];
     advance(field, table, &mut coordinates, 0, index);
     coordinates
-}
-
-/// Moves the coordinates on to the next position, unless this is the last one; answers how many index digits change.
-pub(crate) fn advance_one<F: Field, O: Order, S: Scrambler>(
-    setup: &Setup<F, O, S>,
-    table: &Table,
-    coordinates: &mut [Coordinate; 8],
-    position: u64,
-) -> u8
-    requires { position < (model table.now).q ^ (model table.now).digits }
-    ensures moved { position + 1 < (model table.now).q ^ (model table.now).digits → Moved (F.Field.means setup.now.field) (model table.now) ((O.Order.means setup.now.order).index position) ((O.Order.means setup.now.order).index (position + 1)) coordinates.old coordinates.new result }
-    ensures last { (model table.now).q ^ (model table.now).digits ≤ position + 1 → result ≡ 0 }
-{
-    if position + 1 >= table.positions() {
-        return 0;
-    }
-    let (old, new) = (setup.order.index(position), setup.order.index(position + 1));
-    advance(&setup.field, table, coordinates, old, new)
 }

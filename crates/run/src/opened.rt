@@ -1,10 +1,11 @@
 //! An open run: its table, where it stands, and its calls, with what points are made with at hand.
-ghost use Rattle.std.specs.Prelude.{◌≡◌, ◌↔◌, length, IsTrue, OnErr};
+ghost use Rattle.std.specs.Prelude.{◌≡◌, ◌+◌, ◌^◌, ◌<◌, ◌≤◌, ◌↔◌, length, IsTrue, OnErr};
+ghost use Rattle.run.specs.Present.{Moved};
 ghost use Rattle.base.specs.Tests.{Gives};
 ghost use Rattle.run.specs.Runs.{Agree, Answers, call_tests};
 ghost use Rattle.run.specs.declared.replay.Call.TheVariants.{Step, Jump, At, Verdict};
 
-use crate::advance::{advance_one, present};
+use crate::advance::{advance, present};
 use crate::agree::agree;
 use crate::coordinate::Coordinate;
 use crate::point::write_point;
@@ -68,7 +69,30 @@ impl Open {
         }
     }
 
+    // Moves on to the next position; answers how many index digits change, 0 at the last position.
+    fn advance_one<F: Field, O: Order, S: Scrambler>(&mut self, setup: &Setup<F, O, S>) -> u8
+        requires { self.old.position < (model self.old.table).q ^ (model self.old.table).digits }
+        ensures table { self.new.table ≡ self.old.table }
+        ensures position { self.new.position ≡ self.old.position + 1 }
+        ensures moved { self.new.position < (model self.old.table).q ^ (model self.old.table).digits → Moved (F.Field.means setup.now.field) (model self.old.table) ((O.Order.means setup.now.order).index self.old.position) ((O.Order.means setup.now.order).index self.new.position) self.old.coordinates self.new.coordinates result }
+        ensures last { (model self.old.table).q ^ (model self.old.table).digits ≤ self.new.position → result ≡ 0 }
+    {
+        let (from, to) = (self.position, self.position + 1);
+        self.position = to;
+        if to >= self.table.positions() {
+            return 0;
+        }
+        advance(
+            &setup.field,
+            &self.table,
+            &mut self.coordinates,
+            setup.order.index(from),
+            setup.order.index(to),
+        )
+    }
+
     /// Writes the point of the position and moves one on; answers the position and the number of index digits that change.
+    #[tactic(auto, using(crate::specs::Runs::call_refused))]
     pub(crate) fn step<F: Field, O: Order, S: Scrambler>(
         &mut self,
         setup: &Setup<F, O, S>,
@@ -89,12 +113,12 @@ impl Open {
             return Err(Fault::of(Kind::Finished, Layer::Run));
         }
         write_point(&setup.scrambler, &self.table, &self.coordinates, out);
-        let changed = advance_one(setup, &self.table, &mut self.coordinates, position);
-        self.position = position + 1;
+        let changed = self.advance_one(setup);
         Ok((position, changed))
     }
 
     /// Sets the position.
+    #[tactic(auto, using(crate::specs::Runs::call_refused, crate::specs::Runs::jump_accepted))]
     pub(crate) fn jump<F: Field, O: Order, S: Scrambler>(
         &mut self,
         setup: &Setup<F, O, S>,
@@ -115,6 +139,7 @@ impl Open {
     }
 
     /// Writes the point of a position.
+    #[tactic(auto, using(crate::specs::Runs::call_refused))]
     pub(crate) fn at<F: Field, O: Order, S: Scrambler>(
         &self,
         setup: &Setup<F, O, S>,

@@ -11,10 +11,12 @@ ghost use Rattle.run.specs.States.{view};
 ghost use Rattle.run.specs.declared.replay.Call.TheVariants.{Step, At};
 
 use crate::run::Run;
+use base::digits::padded;
 use base::faults::{Fault, Kind, Layer};
 use fields::field::Field;
 use orders::order::Order;
 use scramblers::scrambler::Scrambler;
+use tables::sobol::sobol_table;
 use tables::table::Table;
 
 /// A call of a run. `room` is the number of places of the buffer that it is given.
@@ -27,7 +29,7 @@ pub enum Call {
 }
 
 /// The numerators of a point.
-#[derive(Clone, Copy)]
+#[derive(Clone, Copy, PartialEq, Eq, Debug)]
 pub struct Point {
     // No point asks for memory: the numerators past the coordinates are spare.
     pub numerators: [u32; 8],
@@ -35,7 +37,7 @@ pub struct Point {
 }
 
 /// What a run answers to a call that it accepts.
-#[derive(Clone, Copy)]
+#[derive(Clone, Copy, PartialEq, Eq, Debug)]
 pub enum Outcome {
     Stepped {
         position: u64,
@@ -57,17 +59,13 @@ pub type Reply = Result<Outcome, Fault>;
 impl Point {
     ghost use Rattle.run.specs.Replays.{numerators_of};
 
-    // The point in a buffer; what is past the eighth place is left out. Base's `padded` is of bytes: over any type it would ask
-    // for a zero of that type, and this is the one caller.
+    // The point in a buffer; what is past the eighth place is left out.
     fn new(buffer: &[u32]) -> Point
         ensures { length buffer.now ≤ 8 → numerators_of result ≡ buffer.now }
     {
-        let coordinates = buffer.len().min(8);
-        let mut numerators = [0u32; 8];
-        numerators[..coordinates].copy_from_slice(&buffer[..coordinates]);
         Point {
-            numerators,
-            coordinates: coordinates as u8,
+            numerators: padded(buffer, 0),
+            coordinates: buffer.len().min(8) as u8,
         }
     }
 
@@ -152,8 +150,7 @@ impl<F: Field + Drop, O: Order + Drop, S: Scrambler + Drop> Run<F, O, S> {
         Ok(())
     }
 
-    // A twin of `replay` but for how it opens: a closure that opens would say less plainly what the run means afterwards.
-    /// The same from a direction list and M: it starts a run on the list's Sobol' table and makes the calls.
+    /// The same from a direction list and M: it opens the list's Sobol' table and makes the calls.
     pub fn replay_list(
         &mut self,
         list: &[u8],
@@ -169,8 +166,7 @@ impl<F: Field + Drop, O: Order + Drop, S: Scrambler + Drop> Run<F, O, S> {
         if log.len() != calls.len() {
             return Err(Fault::of(Kind::WrongLength, Layer::Run));
         }
-        self.start(list, digits)?;
-        self.make_all(calls, log);
-        Ok(())
+        let table = sobol_table(list, digits)?;
+        self.replay(&table, calls, log)
     }
 }

@@ -44,6 +44,7 @@ impl<F: Field + Drop, O: Order + Drop, S: Scrambler + Drop> Run<F, O, S> {
     /// Opens a copy of a table, at position 0. The law over every list of calls holds from there.
     pub fn open(&mut self, table: &Table) -> Result<(), Fault>
         ensures answer { Gives (open_tests (parts_of F.Field O.Order S.Scrambler self.old.setup) (model table.now)) result (λ _. Opens (parts_of F.Field O.Order S.Scrambler self.old.setup) (model table.now) self.new.state) }
+        // That the setup stays is promised by each call that changes the run; a type cannot say it of two states.
         ensures same { self.new.setup ≡ self.old.setup }
         ensures refused { OnErr result (self.new ≡ self.old) }
     {
@@ -66,6 +67,7 @@ impl<F: Field + Drop, O: Order + Drop, S: Scrambler + Drop> Run<F, O, S> {
 
     /// Writes the point of the position and moves one on. Answers the position that was handed out and the number of index digits
     /// that change to the next one, 0 at the last.
+    #[tactic(auto, using(crate::specs::Runs::call_refused, crate::proofs::Same::same_if_refused))]
     pub fn step(&mut self, out: &mut [u32]) -> Result<(u64, u8), Fault>
         ensures tests { Gives (call_tests (view self.old.state) (Step (length out.old))) result (λ x. Unit {0}) }
         ensures answer { Answers (parts_of F.Field O.Order S.Scrambler self.old.setup) (view self.old.state) (Step (length out.old)) (step_answer result out.new) (view self.new.state) }
@@ -80,6 +82,7 @@ impl<F: Field + Drop, O: Order + Drop, S: Scrambler + Drop> Run<F, O, S> {
     }
 
     /// Sets the position.
+    #[tactic(auto, using(crate::specs::Runs::call_refused, crate::proofs::Same::same_if_refused))]
     pub fn jump(&mut self, position: u64) -> Result<(), Fault>
         ensures tests { Gives (call_tests (view self.old.state) (Jump position)) result (λ x. Unit {0}) }
         ensures answer { Answers (parts_of F.Field O.Order S.Scrambler self.old.setup) (view self.old.state) (Jump position) (jump_answer result) (view self.new.state) }
@@ -93,6 +96,7 @@ impl<F: Field + Drop, O: Order + Drop, S: Scrambler + Drop> Run<F, O, S> {
     }
 
     /// Writes the point of a position, and moves nothing.
+    #[tactic(auto, using(crate::specs::Runs::call_refused))]
     pub fn at(&self, position: u64, out: &mut [u32]) -> Result<(), Fault>
         ensures tests { Gives (call_tests (view self.now.state) (At position (length out.old))) result (λ x. Unit {0}) }
         ensures answer { Answers (parts_of F.Field O.Order S.Scrambler self.now.setup) (view self.now.state) (At position (length out.old)) (at_answer result out.new) (view self.now.state) }
@@ -105,6 +109,7 @@ impl<F: Field + Drop, O: Order + Drop, S: Scrambler + Drop> Run<F, O, S> {
     }
 
     /// The least t of every block of q^m points, from the table and the field alone. It moves nothing.
+    #[tactic(auto, using(crate::specs::Runs::call_refused))]
     pub fn verdict(&self, m: u8) -> Result<u8, Fault>
         ensures tests { Gives (call_tests (view self.now.state) (Verdict m)) result (λ x. Unit {0}) }
         ensures answer { Answers (parts_of F.Field O.Order S.Scrambler self.now.setup) (view self.now.state) (Verdict m) (verdict_answer result) (view self.now.state) }

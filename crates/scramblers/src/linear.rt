@@ -48,6 +48,7 @@ fn first_misplaced(shape: &Shape, bytes: &[u8]) -> Option<usize>
 
 // Refuses bytes of which one may not stand where it stands: the place is the index of the first.
 // As base's `check_digits`: what one function could share is the match, two lines for two.
+#[tactic(auto, using(crate::proofs::Placing::places_refused, crate::proofs::Placing::places_clean))]
 fn check_placed(shape: &Shape, bytes: &[u8]) -> Result<(), Fault>
     ensures { Gives (place_tests shape.now.q shape.now.digits bytes.now) result
         (λ _. AllPlaced shape.now.q shape.now.digits bytes.now) }
@@ -93,7 +94,7 @@ impl<F: Field + Drop> LinearScrambler<F> {
         Ok(LinearScrambler {
             field,
             shape,
-            matrices: padded(bytes),
+            matrices: padded(bytes, 0),
         })
     }
 }

@@ -8,7 +8,7 @@ use base::faults::{Fault, Kind, Layer};
 use base::limits::Shape;
 
 /// The scrambler that adds a key digit to each digit of each coordinate, modulo q.
-#[derive(Clone, Copy)]
+#[derive(Clone, Copy, Debug, PartialEq, Eq)]
 pub struct ShiftScrambler {
     shape: Shape,
     // The key digits as they come, coordinate by coordinate, so that one copy keeps them; the rest is 0.
@@ -33,7 +33,7 @@ impl ShiftScrambler {
         check_digits(key, q, Layer::Making)?;
         Ok(ShiftScrambler {
             shape,
-            key: padded(key),
+            key: padded(key, 0),
         })
     }
 }

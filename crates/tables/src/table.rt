@@ -10,11 +10,11 @@ use base::limits::Shape;
 const PLACES: usize = 8192;
 
 /// The digits of a table, within the engine's limits.
-#[derive(Clone, Copy)]
+#[derive(Clone, Copy, Debug, PartialEq, Eq)]
 pub struct Table {
     shape: Shape,
     // No table asks for memory. A column lies in one piece, so that a step reads it in one go; places out of use hold 0.
-    // Flat, since one loop fills it by place: nested, each of three layers would need a loop and an invariant of its own.
+    // Flat: tried as three nested arrays, the borrow checker does not cover a struct made with them.
     entries: [u8; PLACES],
     ghost small: { (i : ℕ) → slice_index entries i < shape.q },
     ghost spare: { (i : ℕ) → used shape.digits shape.coordinates i ≡ false → slice_index entries i ≡ 0 },
@@ -49,7 +49,7 @@ fn place_at(index: usize, shape: &Shape) -> Option<Place>
     }
 }
 
-// The digits that a rule gives, each at its place; 0 where there is none.
+// The digits that a rule gives, each at its place; 0 where there is none. A rule is given three numbers, as `entry` is.
 fn spread<R: Fn(usize, usize, usize) -> u8>(shape: &Shape, rule: R) -> [u8; PLACES]
     requires can { (j k l : ℕ) → Inside shape.now.digits shape.now.coordinates j k l → R.pre rule j k l }
     requires small { (j k l x : ℕ) → Inside shape.now.digits shape.now.coordinates j k l → R.post rule j k l x → x < shape.now.q }
@@ -58,6 +58,7 @@ fn spread<R: Fn(usize, usize, usize) -> u8>(shape: &Shape, rule: R) -> [u8; PLAC
     ensures given { (i : ℕ) → used shape.now.digits shape.now.coordinates i ≡ true → R.post rule (coordinate_at i) (row_at i) (column_at i) (slice_index result i) }
 {
     let mut entries = [0; PLACES];
+    // Tried by `array::from_fn`: its closure would ask that the rule may be called at every place, which no rule promises.
     for (index, entry) in entries.iter_mut().enumerate() {
         *entry = match place_at(index, shape) {
             Some(at) => rule(at.coordinate, at.row, at.column),

@@ -32,7 +32,8 @@ fn pivot_of<F: Field>(field: &F, row: &Row, columns: usize) -> Option<Pivot>
     None
 }
 
-// Adds a multiple of another row to a row, in the columns in use.
+// Adds a multiple of another row to a row, in the columns in use. These stay a number beside the row: a part of a row can't be
+// lent for writing while the rows are gone through (tried; the borrow checker does not cover it).
 fn add_multiple<F: Field>(field: &F, row: &mut Row, factor: u8, other: &Row, columns: usize)
     requires { columns ≤ 32 }
     ensures { (l : ℕ) → l < columns → slice_index row.new l ≡ (F.Field.means field.now).sum (slice_index row.old l) ((F.Field.means field.now).product factor (slice_index other.now l)) }
@@ -80,6 +81,7 @@ impl Matrix {
         self.count += 1;
     }
 
+    // What counts fit stands in clauses, as in the counting check.
     /// The rows of a split: the first so many of each coordinate, one after the other, cut to some columns.
     pub(crate) fn of_split(table: &Table, counts: &[u8], columns: u8) -> Matrix
         requires each { length counts.now ≡ (model table.now).coordinates }
@@ -124,7 +126,8 @@ impl Matrix {
         requires { DigitRows (F.Field.means field.now).q 0 self.count self.columns self.rows }
         ensures { IsTrue result ↔ Independent (F.Field.means field.now) self.count self.columns (digits_of self.rows) }
     {
-        // By index, since each row with a pivot changes the rows after it.
+        // By index: each row with a pivot changes the rows after it. A `while let` over `split_first_mut` would want a measure, and
+        // speak of what is left of the rows where the contracts count them.
         for own in 0..self.count {
             let row = self.rows[own];
             let Some(pivot) = pivot_of(field, &row, self.columns) else {

@@ -13,6 +13,8 @@ use fields::field::Field;
 use tables::table::Table;
 
 // Whether a split passes: its rows, cut to m columns, are independent.
+// Field, table and m stay parameters: a struct of references, with what is asked of the three as ghost fields, would be made
+// for one call.
 fn split_passes<F: Field>(field: &F, table: &Table, counts: &[u8], m: u8) -> bool
     requires same { (F.Field.means field.now).q ≡ (model table.now).q }
     requires each { length counts.now ≡ (model table.now).coordinates }
@@ -29,18 +31,16 @@ fn search<F: Field>(field: &F, table: &Table, m: u8) -> u8
     requires within { m ≤ (model table.now).digits }
     ensures { FirstPassing (F.Field.means field.now) (model table.now) m result }
 {
+    // By a rule of the project the search is two loops, left by a label at the first split that fails, and no `find`.
     'next: for t in 0..m {
-        let Some(mut splits) = Splits::first(table.coordinates(), m - t) else {
-            return unreachable();
-        };
-        loop {
+        let mut at = Splits::first(table.coordinates(), m - t);
+        while let Some(splits) = at {
             if !split_passes(field, table, splits.counts(), m) {
                 continue 'next;
             }
-            if !splits.next() {
-                return t;
-            }
+            at = splits.next();
         }
+        return t;
     }
     m
 }

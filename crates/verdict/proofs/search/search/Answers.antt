@@ -1,6 +1,6 @@
 use Rattle.std.proofs.Common.{◌-◌, refl, subst, arith}
 use Rattle.std.proofs.lemmas.Bool.Decides.{not_from_Decides}
-use Rattle.base.proofs.SplitsPassed.{all_passed, passed_next}
+use Rattle.base.proofs.SplitsPassed.{PassedUpTo, up_to_next}
 use Rattle.base.specs.Independence.{Passes}
 use Rattle.tables.specs.Table.{model}
 use Rattle.verdict.proofs.FailsBelow.{fails_more, found, found_last}
@@ -11,31 +11,29 @@ next-preserved g c =
     let F = g.F.Field.means c.args.field.now in
     let T = model c.args.table.now in
     let counts = c.counts.result.now in
-    fails_more F T c.args.m c.next.t c.loop-splits.invariant.0 c.loop-splits.splits c.loop-splits.invariant.1 counts
+    fails_more F T c.args.m c.next.t c.loop-at.invariant.0 c.in-Some.splits
+    (subst (PassedUpTo T.coordinates (c.args.m - c.next.t) (Passes F T c.args.m)) c.in-Some.is c.loop-at.invariant.1) counts
     c.counts.ensures.value c.counts.ensures.size
     (not_from_Decides {P = Passes F T c.args.m counts} c.split_passes.result c.split_passes.ensures c.if-not-split_passes.true)
 
-pub loop-splits-preserved : goal.loop-splits-preserved
-loop-splits-preserved g c =
+pub loop-at-preserved : goal.loop-at-preserved
+loop-at-preserved g c =
     let F = g.F.Field.means c.args.field.now in
     let T = model c.args.table.now in
     let passes = Passes F T c.args.m in
-    let next = c.if-not-next.ensures in (
-      c.loop-splits.invariant.0,
-      passed_next T.coordinates (c.args.m - c.next.t) passes c.loop-splits.splits c.next-in-loop-splits.new.self c.loop-splits.invariant.1
-          (subst passes c.counts.ensures.value (c.if-not-split_passes.ensures.0 refl))
-          next.same.0 next.same.1 (next.none_between refl),
+    let next = c.next-at.ensures in (
+      c.loop-at.invariant.0,
+      up_to_next T.coordinates (c.args.m - c.next.t) passes c.in-Some.splits c.next-at.result
+          (subst (PassedUpTo T.coordinates (c.args.m - c.next.t) passes) c.in-Some.is c.loop-at.invariant.1)
+          (subst passes c.counts.ensures.value (c.if-not-split_passes.ensures.0 refl)) next.same next.last next.none_between,
     )
 
-pub returns-then-not-next : goal.returns-then-not-next
-returns-then-not-next g c =
+pub returns-in-next : goal.returns-in-next
+returns-in-next g c =
     let F = g.F.Field.means c.args.field.now in
     let T = model c.args.table.now in
-    let passes = Passes F T c.args.m in
-    found F T c.args.m c.next.t c.loop-splits.invariant.0 (omega arith)
-    (all_passed T.coordinates (c.args.m - c.next.t) passes c.loop-splits.splits c.loop-splits.invariant.1
-    (subst passes c.counts.ensures.value (c.if-not-split_passes.ensures.0 refl))
-    (c.if-not-next.ensures.last refl).1)
+    found F T c.args.m c.next.t c.loop-at.invariant.0 (omega arith)
+    (subst (PassedUpTo T.coordinates (c.args.m - c.next.t) (Passes F T c.args.m)) c.in_default.is c.loop-at.invariant.1)
 
 pub returns : goal.returns
 returns g c =

@@ -1,22 +1,11 @@
-use Rattle.std.proofs.Common.{◌≡◌, ◌^◌, ◌<◌, length, sym, ◌∙◌, subst, arith, rules}
-use Rattle.base.specs.Faults.{stated}
+use Rattle.std.proofs.Common.{◌≡◌, ◌^◌, ◌<◌, length, sym, ◌∙◌, subst, arith}
 use Rattle.base.specs.Orders.{digit}
 use Rattle.tables.specs.Table.{model}
 use Rattle.run.specs.Present.{Present}
-use Rattle.run.specs.Runs.{call_refused, parts}
-use Rattle.run.specs.States.{view_of}
-use Rattle.run.specs.declared.replay.Call.TheVariants.{At}
+use Rattle.run.specs.Runs.{parts}
 use Rattle.run.proofs.Calling.{at_answers, index_below}
 use Rattle.verdict.proofs.SplitAnswers.{table_over}
 use Rattle.run.proofs.opened.Open.at.Goals as goal
-
-pub returns-then-out-coordinates-clause-answer : goal.returns-then-out-coordinates-clause-answer
-returns-then-out-coordinates-clause-answer g c =
-    call_refused (view_of c.args.self.now) (At c.args.position (length c.args.out.now)) (stated c.of.result) (search rules)
-
-pub returns-then-position-positions-clause-answer : goal.returns-then-position-positions-clause-answer
-returns-then-position-positions-clause-answer g c =
-    call_refused (view_of c.args.self.now) (At c.args.position (length c.args.out.now)) (stated c.of-then-position-positions.result) (search rules)
 
 pub returns-clause-answer : goal.returns-clause-answer
 returns-clause-answer g c =

@@ -4,6 +4,7 @@ use Rattle.std.proofs.lemmas.Result.{err_from_is_err_and}
 use Rattle.tables.specs.Sobol.{sobol_table, sobol_tests}
 use Rattle.tables.specs.Table.{model}
 use Rattle.run.specs.Runs.{open_tests, parts}
+use Rattle.run.specs.States.{Opens}
 use Rattle.run.proofs.Standing.{start_gives}
 use Rattle.run.proofs.run.Run.start.Goals as goal
 
@@ -21,5 +22,5 @@ returns-clause-answer g c =
     let setup = c.args.self.now.setup in
     let P = parts (g.F.Field.means setup.field) (g.O.Order.means setup.order) (g.S.Scrambler.means setup.scrambler) in
     let built = c.in_ok-table.ensures in
-    start_gives P c.args.list.now c.args.digits (model c.in_ok-table.table) c.open.result c.open.new.self.state built.0 built.1
-    c.open.ensures.answer
+    start_gives P c.args.list.now c.args.digits (model c.in_ok-table.table) c.open.result (λ U. Opens P U c.open.new.self.state)
+    built.0 built.1 c.open.ensures.answer
