@@ -4,8 +4,8 @@ ghost use Rattle.examples.specs.Stated.{WorkedExamples};
 
 /// The number of worked examples that are proved of the definitions, all of them in this contract.
 pub fn worked_examples() -> u8
-    ensures count { result ≡ 5 }
+    ensures count { result ≡ 9 }
     ensures stated { WorkedExamples }
 {
-    5
+    9
 }
