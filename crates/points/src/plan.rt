@@ -1,7 +1,8 @@
 //! The calls that the program makes.
-ghost use Rattle.std.specs.Prelude.{◌≡◌, ℕ, ◌/◌, ◌≤◌, ◌++◌, map, length, replicate};
+ghost use Rattle.std.specs.Prelude.{◌≡◌, ℕ, ◌/◌, ◌≤◌, ◌++◌, map, replicate};
 ghost use Rattle.std.specs.List.{range_with_len};
 ghost use Rattle.run.specs.declared.replay.Call.TheVariants.{Step, Verdict};
+ghost use Rattle.run.specs.declared.replay.Outcome.TheVariants.{Jumped};
 
 use run::replay::{Call, Outcome, Reply};
 
@@ -24,7 +25,7 @@ pub fn planned(coordinates: u8) -> [Call; 12]
 
 /// A log to be filled.
 pub fn nothing_yet() -> [Reply; 12]
-    ensures { length result ≡ 12 }
+    ensures { result ≡ replicate 12 (Ok Jumped) }
 {
     [Ok(Outcome::Jumped); 12]
 }
