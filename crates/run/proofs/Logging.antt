@@ -46,4 +46,4 @@ pub replayed : (P : Parts) (T : TableModel) (h : Log) (before after : Option Ope
     → History P (view before) h (view after) → Replayed P T h after
 replayed P T h before after opens made =
     let history = subst (λ v. History P v h (view after)) opens.means made in
-    record { law = opens.law h (view after) history; history = history }
+    record { law = opens.law h (view after) history; history = history; later = opens.law }

@@ -5,7 +5,7 @@ use Rattle.base.specs.Tables.{TableModel}
 use Rattle.base.specs.declared.faults.Fault.{Fault}
 use Rattle.base.specs.Tests.{Test, test}
 use Rattle.tables.specs.Sobol.{sobol_table, sobol_tests}
-use Rattle.run.specs.Law.{History, Law, Log}
+use Rattle.run.specs.Law.{History, Law, LawOfHistories, Log}
 use Rattle.run.specs.Runs.{Answer, Parts, jumped, least, open_tests, opened, pointed, refused, stepped}
 use Rattle.run.specs.States.{view}
 use Rattle.run.specs.declared.opened.Open.{Open}
@@ -45,7 +45,9 @@ abbrev pub replay_list_tests : Parts → List ℕ → ℕ → ℕ → ℕ → Li
 replay_list_tests P list M calls places =
     test (places ≢ calls) (refusal 3 3 255 0) ∷ (sobol_tests list M ++ open_tests P (sobol_table list M))
 
--- a list of calls was made after a table was opened: the law holds of the log, and the log is a history that ends where the run stands
+-- a list of calls was made after a table was opened: the law holds of the log, and the log is a history that ends where the run
+-- stands; and the law holds of every history from the open, so of the log with all calls that come after it
 pub record Replayed (P : Parts) (T : TableModel) (h : Log) (state : Option Open) : Type 0 where
   pub law : Law P T h
   pub history : History P (opened T 0) h (view state)
+  pub later : LawOfHistories P T
