@@ -14,7 +14,8 @@ use tables::faure::faure_table;
 use tables::raw::raw_table;
 use tables::table::Table;
 
-// Two coordinates of three rows that hold 0 only.
+// Two coordinates of three rows that hold 0 only. This and the next are in `block_examples` too: no crate can use a module of a
+// program.
 const ZEROS: [u8; 18] = [0; 18];
 
 // Two coordinates of three rows, each 1 on the diagonal and 0 elsewhere.

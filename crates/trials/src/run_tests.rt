@@ -7,7 +7,7 @@ use scramblers::none::NoScrambler;
 use std::test::Fail;
 use tables::sobol::sobol_table;
 
-// A coordinate of degree 0, and the polynomial 11 with 1, 3, 7.
+// A coordinate of degree 0, and the polynomial 11 with 1, 3, 7. In `examples` too: no crate can use a module of a program.
 const GOOD: &[u8; 40] =
     b"\0\0\x01\0\0\0\0\0\0\0\0\0\0\0\0\0\0\0\0\0\x03\0\x0b\0\x01\0\x03\0\x07\0\0\0\0\0\0\0\0\0\0\0";
 
