@@ -58,7 +58,7 @@ fn spread<R: Fn(usize, usize, usize) -> u8>(shape: &Shape, rule: R) -> [u8; PLAC
     ensures given { (i : ℕ) → used shape.now.digits shape.now.coordinates i ≡ true → R.post rule (coordinate_at i) (row_at i) (column_at i) (slice_index result i) }
 {
     let mut entries = [0; PLACES];
-    // Tried by `array::from_fn`: its closure would ask that the rule may be called at every place, which no rule promises.
+    // Tried by `array::from_fn`: its clause is a recursion over the 8,192 calls, and the check had not ended after ten minutes.
     for (index, entry) in entries.iter_mut().enumerate() {
         *entry = match place_at(index, shape) {
             Some(at) => rule(at.coordinate, at.row, at.column),
