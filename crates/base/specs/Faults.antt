@@ -1,5 +1,5 @@
 -- The numbers of faults, and what a fault prints. Assumes nothing.
-use Rattle.std.specs.Prelude.{ℕ, List, ◌++◌, codes, decimal, unwrap_or}
+use Rattle.std.specs.Prelude.{ℕ, List, ◌++◌, Option, Some, None, if◌then◌else◌, ◌==◌, codes, decimal, unwrap_or}
 use Rattle.base.specs.declared.faults.Kind.{Kind}
 use Rattle.base.specs.declared.faults.Kind.TheVariants.{NotPrime, OutOfRange, WrongLength, BadLayout, NotPrimitive, BadDirection, BadDigit, OutOfReach, Mismatch, EmptyRun, Finished, OutOfMemory}
 use Rattle.base.specs.declared.faults.Layer.{Layer}
@@ -42,9 +42,19 @@ pub record Refusal : Type 0 where
 abbrev pub refusal : ℕ → ℕ → ℕ → ℕ → Refusal
 refusal n l c p = record { number = n; layer = l; coordinate = c; place = p }
 
--- the four numbers of a fault; 255 stands for the coordinate of one that belongs to none
+-- the number of a coordinate: 255 says that the fault belongs to none. No refusal may name a coordinate 255 beside that,
+-- so it has a number that is no byte, and the four numbers of a refusal leave one fault and no other
+abbrev pub coordinate_number : Option ℕ → ℕ
+coordinate_number None = 255
+coordinate_number (Some c) = if c == 255 then 256 else c
+
+-- the four numbers of a fault
 abbrev pub stated : Fault → Refusal
-stated f = refusal (kind_number f.kind) (layer_number f.layer) (unwrap_or f.coordinate 255) f.place
+stated f = refusal (kind_number f.kind) (layer_number f.layer) (coordinate_number f.coordinate) f.place
+
+-- the four numbers that a fault prints, which are bytes but for the place
+abbrev pub printed : Fault → Refusal
+printed f = refusal (kind_number f.kind) (layer_number f.layer) (unwrap_or f.coordinate 255) f.place
 
 -- the same as the program hands them out
 abbrev pub told : Numbers → Refusal

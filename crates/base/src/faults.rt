@@ -1,6 +1,6 @@
 //! A refusal: what was wrong, which layer said so, of which coordinate, and where in the input.
-ghost use Rattle.std.specs.Prelude.{◌≡◌, Some};
-ghost use Rattle.base.specs.Faults.{kind_number, layer_number, refusal, shown_fault, stated, told};
+ghost use Rattle.std.specs.Prelude.{◌≡◌, ◌≢◌, Some};
+ghost use Rattle.base.specs.Faults.{kind_number, layer_number, printed, refusal, shown_fault, stated, told};
 
 use std::error::Error;
 use std::fmt;
@@ -83,7 +83,7 @@ impl Fault {
 pub struct Numbers(pub u8, pub u8, pub u8, pub usize);
 
 impl From<Fault> for Numbers {
-    ghost from_gives = { λ fault numbers. told numbers ≡ stated fault };
+    ghost from_gives = { λ fault numbers. (told numbers ≡ printed fault) × (fault.coordinate ≢ Some 255 → told numbers ≡ stated fault) };
 
     fn from(fault: Fault) -> Numbers {
         Numbers(

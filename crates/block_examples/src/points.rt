@@ -146,7 +146,9 @@ impl<'a, F: Field, O: Order, S: Scrambler> Points<'a, F, O, S> {
     {
         let size = self.power(m);
         let first = block * size;
-        let mut numerators = Vec::new(heap);
+        // Room for all at once, so that memory is asked for once.
+        let room = size as usize * self.table.coordinates() as usize;
+        let mut numerators = Vec::with_capacity(heap, room)?;
         let mut point = [0u32; 8];
         let point = &mut point[..self.table.coordinates() as usize];
         for position in first..first + size {

@@ -1,10 +1,9 @@
 -- The steps of counting points in cells, as in specs/Counting.antt.
--- The list of powers holds what each call for a power gave. The number of a point's cell goes on by one coordinate a step, and
+-- Each power is q times the one before it, within 33 bits. The number of a point's cell goes on by one coordinate a step, and
 -- stays below the number of cells. One point more adds 1 to the counter of its cell, and a counter is at most the number of points.
 -- Assumes nothing.
-use Rattle.std.proofs.Common.{◌≡◌, ℕ, zero, suc, ◌+◌, ◌-◌, ◌*◌, ◌/◌, ◌%◌, ◌^◌, ◌<◌, ◌≤◌, Bool, cond, eqb, List, [], ◌∷◌, ◌++◌, length, get_or, take, drop, set, sym, refl, ap, ◌∙◌, subst, ap₂, ⊎_elim, add-zero, mul-le-mul_right, suc-mul, mul_comm, lt_of_mul-lt-mul_right, add-one, arith, pow-add}
+use Rattle.std.proofs.Common.{◌≡◌, ℕ, zero, suc, ◌+◌, ◌-◌, ◌*◌, ◌/◌, ◌^◌, ◌<◌, ◌≤◌, Bool, cond, eqb, List, [], ◌∷◌, ◌++◌, length, get_or, take, drop, set, sym, refl, ap, ◌∙◌, subst, ap₂, ⊎_elim, add-zero, mul-le-mul_right, suc-mul, mul_comm, lt_of_mul-lt-mul_right, add-one, arith, pow-add, pow-suc}
 use native.Mathlib.Nat.{one-le-pow, pow-le-pow_right}
-use Rattle.std.proofs.Math.Nat.{mod-eq_of_lt}
 use Rattle.std.proofs.lemmas.Nat.{div_below, mul-add-lt}
 use Rattle.std.proofs.lemmas.List.FromFn.{map-range_with_len_more, length-map-range_with_len}
 use Rattle.std.proofs.lemmas.List.{drop_at, drop-drop, drop_more, get_or-drop, get_or-set_other, get_or-set_same, length-append, length-drop, take_at, take_more}
@@ -12,9 +11,6 @@ use Rattle.std.proofs.lemmas.Bool.{cases_eq, cond_both, cond-false, cond-true, e
 use Rattle.std.specs.Slice.Iter.{chunks_exact_remainder, chunks_exact_rest, chunks_exact_size}
 use Rattle.std.specs.declared.slice.ChunksExact.{ChunksExact}
 use Rattle.base.specs.Nets.{count, total}
-use Rattle.std.specs.Fn.{Called}
-use Rattle.std.specs.Array.{IsFromFnResultFrom}
-use denote.Param.Members.{Mut}
 use Rattle.checks.specs.Counting.{cell_of, points_of}
 use Rattle.checks.specs.declared.grid.Grid.{Grid}
 
@@ -39,22 +35,13 @@ total_more ds j h = ap total (take_more ds j 0 h) ∙ total_push (take j ds) (ge
 
 -- ---- powers of q
 
--- what calls of a function that does not change gave, one at each index
-pub made_at : {F : Type 0} (g : Mut F (ℕ × Unit {0}) ℕ) (f : F) (h : ℕ → ℕ) (ys : List ℕ) (i n : ℕ)
-    → ((k y : ℕ) (u : F) → Called g f (k, tt) y u → (u ≡ f) × (y ≡ h k)) → IsFromFnResultFrom g f ys i n
-    → (k : ℕ) → i ≤ k → k < i + n → get_or ys k 0 ≡ h k
-made_at g f h ys i zero each made k low high = absurd (omega arith)
-made_at g f h ys i (suc n) each made k low high =
-    let told = each i made.1 made.0 made.3 in
-    ⊎_elim
-    (λ e. subst (λ j. get_or ys j 0 ≡ h j) (sym e) (made.2.1 0 ∙ told.1))
-    (λ ne. made_at g f h ys (i + 1) n each (subst (λ u. IsFromFnResultFrom g u ys (i + 1) n) told.0 made.4) k (omega arith) (omega arith))
-    (cases_eq k i)
+power_more : (q k : ℕ) → q ^ (k + 1) ≡ q ^ k * q
+power_more q k = ap (λ n. q ^ n) (add-one k) ∙ pow-suc q k
 
--- a power of q up to q^M, worked out modulo 2^64, is itself
-pub power_wraps_to_itself : (q M i r : ℕ) → 2 ≤ q → q ^ M ≤ 2 ^ 32 → i ≤ M → r ≡ q → r ^ i % 2 ^ 64 ≡ q ^ i
-power_wraps_to_itself q M i r base fits low is =
-    rw is (mod-eq_of_lt (omega (arith, fits, pow-le-pow_right {n = q} (omega arith) {i = i} {j = M} low)))
+-- the power after q^i fits where q^M does
+pub next_power_fits : (q M i p r : ℕ) → 2 ≤ q → q ^ M ≤ 2 ^ 32 → i < M → r ≡ q → p ≡ q ^ i → p * r ≤ 2 ^ 32
+next_power_fits q M i p r base fits low is at =
+    rw (is, at, ← power_more q i) (omega (arith, fits, pow-le-pow_right {n = q} (omega arith) {i = i + 1} {j = M} (omega arith)))
 
 -- q^0 to q^M are in a list, none above 2^32
 pub record Powers (q M : ℕ) (powers : List ℕ) : Type 0 where

@@ -6,7 +6,6 @@ ghost use Rattle.base.specs.Nets.{total};
 ghost use Rattle.checks.specs.Counting.{InReach, cell_of};
 
 use base::limits::Shape;
-use std::array;
 
 /// A shape, with q^0 to q^digits.
 #[derive(Clone, Copy)]
@@ -23,10 +22,14 @@ impl Grid {
         ensures { result.shape ≡ shape }
     {
         let q = u64::from(shape.q);
-        Grid {
-            shape,
-            powers: array::from_fn(|i| q.wrapping_pow(i as u32)),
+        let mut powers = [1u64; 33];
+        let mut power = 1;
+        // Each power from the one before it, and none past q^digits: for a few points making the grid is most of the check.
+        for place in powers[1..=usize::from(shape.digits)].iter_mut() {
+            power *= q;
+            *place = power;
         }
+        Grid { shape, powers }
     }
 
     // The number of points of a block, q^m; none where m or q^m is too large.

@@ -1,7 +1,7 @@
 -- A change of one index digit. Coordinate after coordinate, a multiple of the digit's column is added; and where one summand of a
 -- row changes by a difference, so does the sum. Assumes nothing.
-use Rattle.std.proofs.Common.{◌≡◌, ℕ, suc, ◌+◌, ◌<◌, ◌≤◌, min, List, length, get_or, set, sym, refl, ap, ◌∙◌, subst, ap₂, ⊎_elim, add-one, arith}
-use Rattle.std.proofs.lemmas.List.{get_or-set_other, get_or-set_same}
+use Rattle.std.proofs.Common.{◌≡◌, ℕ, suc, ◌+◌, ◌-◌, ◌<◌, ◌≤◌, List, ◌++◌, length, take, drop, get_or, set, sym, refl, ap, ◌∙◌, subst, ap₂, ⊎_elim, add-one, arith}
+use Rattle.std.proofs.lemmas.List.{get_or-append_right, get_or_append_left, get_or-drop, get_or-set_other, get_or-set_same, get_or-take}
 use Rattle.std.proofs.lemmas.Bool.{cases_eq}
 use Rattle.base.specs.Fields.{FieldModel}
 use Rattle.base.specs.Tables.{TableModel}
@@ -28,18 +28,16 @@ changed_more F T l by n before after x room narrow is so_far =
           ap (λ c. get_or c.digits k 0) (get_or-set_other after n j x no_digits (λ e. omega (arith, e, h))) ∙ so_far.others j k (omega (arith, h));
     }
 
--- the next of eight coordinates: one of the table's
-pub changed_turn : (F : FieldModel) (T : TableModel) (l by j : ℕ) (before after : List Coordinate) (x : Coordinate) → j < T.coordinates
-    → j < length after → T.digits ≤ 32 → ((k : ℕ) → k < 32 → get_or x.digits k 0 ≡ F.sum (shown after j k) (F.product (T.entry j (k + 1) l) by))
-    → Changed F T l by (min j T.coordinates) before after → Changed F T l by (min (j + 1) T.coordinates) before (set after j x)
-changed_turn F T l by j before after x inside room narrow is so_far =
-    let here : min j T.coordinates ≡ j = omega arith in
-    let next : min (j + 1) T.coordinates ≡ j + 1 = omega arith in
-    rw next (changed_more F T l by j before after x room narrow is (rw here at so_far))
-
--- or one past them, which stays as it is
-pub changed_past : (F : FieldModel) (T : TableModel) (l by j : ℕ) (before after same : List Coordinate) → T.coordinates ≤ j
-    → same ≡ after → Changed F T l by (min j T.coordinates) before after → Changed F T l by (min (j + 1) T.coordinates) before same
-changed_past F T l by j before after same past is so_far =
-    let here : min j T.coordinates ≡ min (j + 1) T.coordinates = omega arith in
-    rw (is, ← here) so_far
+-- where the first n of some coordinates were changed, so were the first n of all
+pub changed_front : (F : FieldModel) (T : TableModel) (l by n : ℕ) (before after : List Coordinate) → length after ≡ n
+    → Changed F T l by n (take n before) after → Changed F T l by n before (after ++ drop n before)
+changed_front F T l by n before after size front =
+    record {
+      changed = λ j k h low.
+          ap (λ c. get_or c.digits k 0) (get_or_append_left after (drop n before) no_digits j (omega (arith, h, size))) ∙ front.changed j k h low
+          ∙ ap (λ c. F.sum (get_or c.digits k 0) (F.product (T.entry j (suc k) l) by)) (get_or-take n before j no_digits h);
+      others = λ j k h.
+          ap (λ c. get_or c.digits k 0)
+          (get_or-append_right after (drop n before) n j no_digits size h ∙ get_or-drop n before (j - n) no_digits
+          ∙ ap (λ i. get_or before i no_digits) (omega (arith, h)));
+    }

@@ -19,7 +19,10 @@ fn change_all<F: Field>(
 )
     ensures { column < (model table.now).digits → Changed (F.Field.means field.now) (model table.now) column by (model table.now).coordinates coordinates.old coordinates.new }
 {
-    for (j, coordinate) in coordinates.iter_mut().enumerate() {
+    for (j, coordinate) in coordinates[..table.coordinates() as usize]
+        .iter_mut()
+        .enumerate()
+    {
         if let Some(digits) = table.column(j as u8, column) {
             coordinate.change(field, digits, by);
         }

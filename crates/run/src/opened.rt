@@ -30,7 +30,7 @@ pub(crate) struct Open {
     table: Table,
     pub(crate) position: u64,
     // A plain array, since no run asks for memory: there are at most eight coordinates.
-    coordinates: [Coordinate; 8],
+    pub(crate) coordinates: [Coordinate; 8],
 }
 
 impl<F: Field, O: Order, S: Scrambler> Setup<F, O, S> {

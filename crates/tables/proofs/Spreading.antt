@@ -1,13 +1,13 @@
 -- Digits spread over the places of a table: one place more, and what stands where. Assumes nothing.
-use Rattle.std.proofs.Common.{◌≡◌, ℕ, ◌+◌, ◌%◌, ◌<◌, ◌≤◌, true, false, ◌≢◌, List, length, get_or, set, replicate, sym, ap, ◌∙◌, subst, ⊎_elim, arith, below_more}
-use Rattle.std.proofs.lemmas.List.{get_or-replicate, get_or-set_same, get_or-set_other, get_or_past, length-replicate, length-set}
-use Rattle.std.proofs.lemmas.Bool.{and_from, cases_eq, cases_lt, lt-ltb}
+use Rattle.std.proofs.Common.{◌≡◌, ℕ, ◌+◌, ◌-◌, ◌*◌, ◌%◌, ◌<◌, ◌≤◌, Bool, true, false, ◌&&◌, ◌≢◌, List, ◌++◌, length, get_or, set, take, drop, replicate, refl, sym, ap, ◌∙◌, subst, ⊎_elim, arith, below_more}
+use Rattle.std.proofs.lemmas.List.{get_or-append_right, get_or_append_left, get_or-drop, get_or-replicate, get_or-set_same, get_or-set_other, get_or-take, get_or_past, length-replicate, length-set, length-take}
+use Rattle.std.proofs.lemmas.Bool.{and_from, cases_eq, cases_lt, lt-ltb, ltb-true}
 use Rattle.base.specs.Tables.{Inside}
 use Rattle.tables.specs.Places.{place, coordinate_at, row_at, column_at, used}
 
--- the places below n hold digits that have P, as far as a table of M digits and s coordinates uses them, and the others hold 0
+-- of the places of s coordinates those below n hold digits that have P, as far as a table of M digits uses them, and the others hold 0
 pub record Spread (q M s : ℕ) (P : ℕ → ℕ → Type 0) (n : ℕ) (entries : List ℕ) : Type 0 where
-  pub size : length entries ≡ 8192
+  pub size : length entries ≡ s * 1024
   pub small : (i : ℕ) → get_or entries i 0 < q
   pub spare : (i : ℕ) → used M s i ≡ false → get_or entries i 0 ≡ 0
   pub given : (i : ℕ) → i < n → used M s i ≡ true → P i (get_or entries i 0)
@@ -16,14 +16,50 @@ zeros_at : (n i : ℕ) → get_or {A = ℕ} (replicate n 0) i 0 ≡ 0
 zeros_at n i =
     ⊎_elim (λ low. get_or-replicate n i 0 0 low) (λ past. get_or_past (replicate n 0) i 0 (omega (arith, length-replicate {A = ℕ} n 0))) (cases_lt i n)
 
-pub spread_none : (q M s : ℕ) (P : ℕ → ℕ → Type 0) → 0 < q → Spread q M s P 0 (replicate 8192 0)
-spread_none q M s P some =
+zeros_before : (n i : ℕ) → get_or {A = ℕ} (take n (replicate 8192 0)) i 0 ≡ 0
+zeros_before n i =
+    ⊎_elim (λ low. get_or-take n (replicate 8192 0) i 0 low ∙ zeros_at 8192 i)
+    (λ past. get_or_past (take n (replicate 8192 0)) i 0 (omega (arith, length-take n (replicate {A = ℕ} 8192 0)))) (cases_lt i n)
+
+pub spread_none : (q M s : ℕ) (P : ℕ → ℕ → Type 0) → 0 < q → s ≤ 8 → Spread q M s P 0 (take (s * 1024) (replicate 8192 0))
+spread_none q M s P some few =
     record {
-      size = length-replicate {A = ℕ} 8192 0;
-      small = λ i. rw (zeros_at 8192 i) some;
-      spare = λ i _. zeros_at 8192 i;
+      size = length-take (s * 1024) (replicate {A = ℕ} 8192 0) ∙ omega (arith, few, length-replicate {A = ℕ} 8192 0);
+      small = λ i. rw (zeros_before (s * 1024) i) some;
+      spare = λ i _. zeros_before (s * 1024) i;
       given = λ i low. absurd (omega arith);
     }
+
+first_true : (x y : Bool) → (x && y) ≡ true → x ≡ true
+first_true true y e = refl
+first_true false y e = e
+
+-- the places of all coordinates, of which those past the s in use hold 0
+abbrev pub whole : ℕ → List ℕ → List ℕ
+whole s entries = entries ++ drop (s * 1024) (replicate 8192 0)
+
+module _ (q M s : ℕ) (P : ℕ → ℕ → Type 0) (n : ℕ) (entries : List ℕ) (so_far : Spread q M s P n entries) where
+  whole_front : (i : ℕ) → i < s * 1024 → get_or (whole s entries) i 0 ≡ get_or entries i 0
+  whole_front i low = get_or_append_left entries (drop (s * 1024) (replicate 8192 0)) 0 i (omega (arith, low, so_far.size))
+
+  whole_rest : (i : ℕ) → s * 1024 ≤ i → get_or (whole s entries) i 0 ≡ 0
+  whole_rest i past =
+      get_or-append_right entries (drop (s * 1024) (replicate 8192 0)) (s * 1024) i 0 so_far.size past
+      ∙ get_or-drop (s * 1024) (replicate 8192 0) (i - s * 1024) 0 ∙ zeros_at 8192 (s * 1024 + (i - s * 1024))
+
+  pub whole_small : 0 < q → (i : ℕ) → get_or (whole s entries) i 0 < q
+  whole_small some i =
+      ⊎_elim (λ low. rw (whole_front i low) (so_far.small i)) (λ past. rw (whole_rest i past) some) (cases_lt i (s * 1024))
+
+  pub whole_spare : (i : ℕ) → used M s i ≡ false → get_or (whole s entries) i 0 ≡ 0
+  whole_spare i spare =
+      ⊎_elim (λ low. whole_front i low ∙ so_far.spare i spare) (λ past. whole_rest i past) (cases_lt i (s * 1024))
+
+  pub whole_given : s * 1024 ≤ n → (i : ℕ) → used M s i ≡ true → P i (get_or (whole s entries) i 0)
+  whole_given end i is =
+      let within : coordinate_at i < s = ltb-true _ _ (first_true _ _ is) in
+      let low : i < s * 1024 = omega (arith, within) in
+      rw (whole_front i low) (so_far.given i (omega (arith, low, end)) is)
 
 -- one place more, with a digit that has P where the table uses the place, and 0 where it does not
 pub spread_more : (q M s : ℕ) (P : ℕ → ℕ → Type 0) (n : ℕ) (entries : List ℕ) (v : ℕ) → n < length entries → v < q

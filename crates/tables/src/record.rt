@@ -6,7 +6,7 @@ ghost use Rattle.tables.specs.Given.{GivenBy};
 ghost use Rattle.tables.specs.Parts.{TakenApart};
 
 use crate::polynomial::Polynomial;
-use base::faults::{Fault, Kind, Layer};
+use base::faults::{Fault, Kind, Layer, NO_COORDINATE};
 
 /// The bytes in a record.
 pub const RECORD_BYTES: usize = 20;
@@ -58,7 +58,7 @@ impl<'a> Record<'a> {
         Fault {
             kind,
             layer,
-            coordinate: Some(self.coordinate),
+            coordinate: (self.coordinate != NO_COORDINATE).then_some(self.coordinate),
             place: self.place,
         }
     }

@@ -1,5 +1,5 @@
 //! Sobol' tables, from a direction list.
-ghost use Rattle.std.specs.Prelude.{◌≡◌, ◌/◌, ◌<◌, ◌≤◌, length};
+ghost use Rattle.std.specs.Prelude.{◌≡◌, ◌/◌, ◌<◌, ◌≤◌, length, slice_index};
 ghost use Rattle.base.specs.Tables.{SameTable};
 ghost use Rattle.base.specs.Tests.{Gives};
 ghost use Rattle.tables.specs.Reader.{Whole};
@@ -26,17 +26,16 @@ fn read_all(mut reader: Reader) -> Result<[[u32; 32]; 8], Fault>
     Ok(numbers)
 }
 
-// The digit in a row and a column: a bit of the column's direction number, and 0 below the diagonal.
-fn digit_of(number: u32, row: usize, column: usize) -> u8
+// The digit in a row and a column: a bit of the column's direction number, and 0 below the diagonal, where no number is read.
+fn digit_of(numbers: &[u32; 32], row: usize, column: usize) -> u8
     requires { (1 ≤ row) × (column < 32) }
-    ensures value { result ≡ sobol_digit (λ _. number) row column }
+    ensures value { result ≡ sobol_digit (λ _. slice_index numbers.now column) row column }
     ensures small { result < 2 }
 {
     if row > column + 1 {
-        0
-    } else {
-        ((number >> (column + 1 - row)) & 1) as u8
+        return 0;
     }
+    ((numbers[column] >> (column + 1 - row)) & 1) as u8
 }
 
 /// The Sobol' table of a direction list, of some digits.
@@ -48,6 +47,6 @@ pub fn sobol_table(list: &[u8], digits: u8) -> Result<Table, Fault>
     let shape = Shape::new(2, digits, coordinates, Layer::Tables)?;
     let numbers = read_all(reader)?;
     Ok(Table::build(shape, |coordinate, row, column| {
-        digit_of(numbers[coordinate][column], row, column)
+        digit_of(&numbers[coordinate], row, column)
     }))
 }

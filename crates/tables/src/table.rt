@@ -59,7 +59,9 @@ fn spread<R: Fn(usize, usize, usize) -> u8>(shape: &Shape, rule: R) -> [u8; PLAC
 {
     let mut entries = [0; PLACES];
     // Tried by `array::from_fn`: its clause is a recursion over the 8,192 calls, and the check had not ended after ten minutes.
-    for (index, entry) in entries.iter_mut().enumerate() {
+    // Past the coordinates in use all is 0 already.
+    let used = shape.coordinates as usize * 1024;
+    for (index, entry) in entries[..used].iter_mut().enumerate() {
         *entry = match place_at(index, shape) {
             Some(at) => rule(at.coordinate, at.row, at.column),
             None => 0,

@@ -1,13 +1,13 @@
-use Rattle.std.proofs.Common.{◌%◌, ◌∙◌, ◌^◌, arith, rules}
-use Rattle.checks.proofs.Tallies.{made_at, power_wraps_to_itself}
+use Rattle.std.proofs.Common.{◌<◌, arith}
+use Rattle.checks.proofs.Tallies.{next_power_fits}
 use Rattle.checks.proofs.grid.Grid.new.Goals as goal
 
-pub invariant_of-result : goal.invariant_of-result
-invariant_of-result c =
+pub overflow_mul-power : goal.overflow_mul-power
+overflow_mul-power c =
     let x = c.args.shape in
-    record {
-      powers_are = λ i low.
-          made_at _ _ (λ k. c.from-q.result ^ k % 2 ^ 64) _ 0 33 (λ k y u h. (search rules, search rules)) c.from_fn.ensures.items.each i (omega arith)
-          (omega (arith, x.narrow))
-          ∙ power_wraps_to_itself x.q x.digits i c.from-q.result x.base.0 x.width.1 low c.from-q.ensures;
-    }
+    let low : c.loop-place.place-index < x.digits = omega (arith, c.loop-place-test.true, c.loop-place.invariant.size) in
+    omega (
+      arith,
+      next_power_fits x.q x.digits c.loop-place.place-index c.loop-place.power c.from-q.result x.base.0 x.width.1 low c.from-q.ensures
+          c.loop-place.invariant.last,
+    )
